@@ -5,7 +5,7 @@ pub mod TableRules
 pub mod Levels
 pub mod Labels
 pub mod Folds
-pub mod Theory
 pub mod Questions
 pub mod Sound
 pub mod Unfit
+pub mod Listed
