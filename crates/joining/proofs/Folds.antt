@@ -10,6 +10,15 @@ use Rattle.joining.specs.Laws.{Laws}
 use Rattle.joining.specs.Pairs.{paired, joined-parts, single-parts}
 use Rattle.joining.specs.Rows.{folded, Cut}
 
+-- what goes through the empty element, the join and single marks goes through the fold
+module _ {J K : Type 0} (f : J → K) (neutral : J) (joined : J → J → J) (single : ℕ → ℕ → J) (neutral′ : K) (joined′ : K → K → K) (single′ : ℕ → ℕ → K) where
+  pub folded-through :
+      f neutral ≡ neutral′ → ((x y : J) → f (joined x y) ≡ joined′ (f x) (f y)) → ((mark position : ℕ) → f (single mark position) ≡ single′ mark position) →
+      (first : ℕ) (row : List ℕ) → f (folded neutral joined single first row) ≡ folded neutral′ joined′ single′ first row
+  folded-through empty join one first [] = empty
+  folded-through empty join one first (mark ∷ marks) =
+      rw (join, one) (ap (joined′ _) (folded-through empty join one (first + 1) marks))
+
 -- the fold by a pair of joinings is the pair of both folds
 module _ {A B : Type 0} (neutral : A) (joined : A → A → A) (single : ℕ → ℕ → A) (neutral′ : B) (joined′ : B → B → B) (single′ : ℕ → ℕ → B) where
   pub folded-parts :
