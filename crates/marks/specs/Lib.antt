@@ -1,0 +1,4 @@
+pub mod Marks
+pub mod Picks
+pub mod Tallies
+pub mod Unique
