@@ -1,20 +1,13 @@
--- What the marks and the two plans of a table claim, of whole plays.
+-- What the marks and the two plans of a table claim, of whole plays. A mark below never is a count.
 use mathlib.Core.Path.{_≡_}
 use mathlib.Core.Bool.{Bool, true, false}
 use mathlib.Core.List.{List}
 use Prim.Native.Nat.{ℕ, _≤_, _<_}
 use lib.Dec.{T}
 use Rattle.arena.specs.declared.player.Player.the-variants.{Runner}
+use Rattle.marks.specs.Marks.{never, none}
 use Rattle.arena.specs.Game.{Rules, degree, move, caught}
 use Rattle.arena.specs.Plays.{Play, newest, made, From, Strategy, plan, Follows, Lawful, Forces}
-
--- the mark that says never; a mark below it is a count
-abbrev pub never : ℕ
-never = 4294967295
-
--- the move word that names no position
-abbrev pub none : ℕ
-none = 4294967295
 
 -- What the marks μ and the move words w claim of plays from p. The words at the pursuer's places are its plan, those at the runner's places the runner's.
 pub record Claims-at (R : Rules) (μ w : ℕ → ℕ) (p : ℕ) : Type 0 where

@@ -9,7 +9,7 @@ use lib.Dec.{T}
 use Rattle.arena.specs.declared.player.Player.{Player}
 use Rattle.arena.specs.declared.player.Player.the-variants.{Pursuer, Runner}
 use Rattle.arena.specs.Game.{Rules, caught}
-use Rattle.arena.specs.Claims.{never}
+use Rattle.marks.specs.Marks.{never}
 
 -- the lesser of two labels; a label is a number, or none for infinity
 abbrev pub lesser : Option ℕ → Option ℕ → Option ℕ

@@ -6,7 +6,7 @@ use Prim.Native.Nat.{ℕ, zero, suc, _≤_, _<_}
 use lib.Dec.{T}
 use Rattle.arena.specs.declared.player.Player.the-variants.{Pursuer, Runner}
 use Rattle.arena.specs.Game.{Rules, degree, move, caught}
-use Rattle.arena.specs.Claims.{never}
+use Rattle.marks.specs.Marks.{never}
 
 -- p is added to a level L: a pursuer's place with some move into L, or a runner's place with all its moves into L
 abbrev pub Grows : Rules → (ℕ → Type 0) → ℕ → Type 0

@@ -5,7 +5,7 @@ use Prim.Native.Nat.{ℕ, suc, _≤_, _<_}
 use lib.Dec.{T}
 use Rattle.arena.specs.declared.player.Player.the-variants.{Pursuer, Runner}
 use Rattle.arena.specs.Game.{Rules, degree, move, caught}
-use Rattle.arena.specs.Claims.{never, none}
+use Rattle.marks.specs.Marks.{never, none}
 
 -- the rules at the place p, for the marks μ and the move words w
 pub record Rules-at (R : Rules) (μ w : ℕ → ℕ) (p : ℕ) : Type 0 where

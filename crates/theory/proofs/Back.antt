@@ -12,7 +12,8 @@ use Rattle.arena.specs.declared.player.Player.{Player}
 use Rattle.arena.specs.declared.player.Player.the-variants.{Pursuer, Runner}
 use Rattle.arena.specs.Game.{Rules, degree, move, Step, caught}
 use Rattle.arena.specs.Plays.{Play, newest, made, From, Strategy, Follows, plan, Lawful, Forces}
-use Rattle.arena.specs.Claims.{never, Closed, Claims}
+use Rattle.marks.specs.Marks.{never}
+use Rattle.arena.specs.Claims.{Closed, Claims}
 use Rattle.arena.specs.TableRules.{Table-rules}
 use Rattle.theory.proofs.Plays.{sides, tests, not-both, not-clash, play-more, from-more, follows-more, made-more}
 use Rattle.theory.proofs.Ends.{play-first, from-first, follows-first, made-first, strip, strip-length, strip-play, first-then, strip-follows, strip-from}

@@ -9,7 +9,8 @@ use lib.Dec.{T, ltb, ltb→lt, lt→ltb}
 use Rattle.std.proofs.shelf.Ways.{tells}
 use Rattle.arena.specs.declared.player.Player.the-variants.{Pursuer, Runner}
 use Rattle.arena.specs.Game.{Rules, degree, move, caught}
-use Rattle.arena.specs.Claims.{never, Closed}
+use Rattle.marks.specs.Marks.{never}
+use Rattle.arena.specs.Claims.{Closed}
 use Rattle.arena.specs.TableRules.{Table-rules}
 use Rattle.theory.proofs.Plays.{sides, tests}
 use Rattle.theory.proofs.Sums.{sum, sum-lt, sum-bound}

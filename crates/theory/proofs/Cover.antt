@@ -9,7 +9,8 @@ use lib.Dec.{T}
 use Rattle.arena.specs.declared.player.Player.{Player}
 use Rattle.arena.specs.declared.player.Player.the-variants.{Pursuer, Runner}
 use Rattle.arena.specs.Game.{Rules, degree, move}
-use Rattle.arena.specs.Claims.{never, Closed, Claims}
+use Rattle.marks.specs.Marks.{never}
+use Rattle.arena.specs.Claims.{Closed, Claims}
 use Rattle.arena.specs.TableRules.{Table-rules}
 use Rattle.arena.specs.Folds.{Folds}
 use Rattle.theory.proofs.Global.{claims}

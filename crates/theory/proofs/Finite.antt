@@ -9,7 +9,8 @@ use lib.Dec.{T, ltb, ltb→lt, lt→ltb}
 use Rattle.arena.specs.declared.player.Player.{Player}
 use Rattle.arena.specs.declared.player.Player.the-variants.{Pursuer, Runner}
 use Rattle.arena.specs.Game.{Rules, degree, move, caught}
-use Rattle.arena.specs.Claims.{never, Closed}
+use Rattle.marks.specs.Marks.{never}
+use Rattle.arena.specs.Claims.{Closed}
 use Rattle.arena.specs.Levels.{Grows, Level, First, By-levels, Nonstop}
 use Rattle.theory.proofs.Plays.{sides, tests, not-both, not-clash}
 use Rattle.theory.proofs.Levels.{level-mono}

@@ -12,7 +12,8 @@ use lib.Dec.{T}
 use Rattle.arena.specs.declared.player.Player.{Player}
 use Rattle.arena.specs.declared.player.Player.the-variants.{Pursuer, Runner}
 use Rattle.arena.specs.Game.{Rules, degree, move, caught}
-use Rattle.arena.specs.Claims.{never, Closed}
+use Rattle.marks.specs.Marks.{never}
+use Rattle.arena.specs.Claims.{Closed}
 use Rattle.arena.specs.TableRules.{Table-rules}
 use Rattle.arena.specs.Labels.{lesser, greater, least-of, greatest-of, one-more, wanted, label, Settles, Labelled}
 use Rattle.theory.proofs.Plays.{sides, tests, not-both, not-clash}

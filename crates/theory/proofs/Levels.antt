@@ -9,7 +9,8 @@ use lib.Dec.{T}
 use Rattle.arena.specs.declared.player.Player.{Player}
 use Rattle.arena.specs.declared.player.Player.the-variants.{Pursuer, Runner}
 use Rattle.arena.specs.Game.{Rules, degree, move, caught}
-use Rattle.arena.specs.Claims.{never, none, Closed}
+use Rattle.marks.specs.Marks.{never, none}
+use Rattle.arena.specs.Claims.{Closed}
 use Rattle.arena.specs.TableRules.{Table-rules}
 use Rattle.arena.specs.Levels.{Grows, Level, First, By-levels, Counts-attractor, Nonstop}
 use Rattle.theory.proofs.Plays.{sides, tests, not-both, not-clash}

@@ -3,7 +3,8 @@ use mathlib.Core.Bool.{Bool}
 use Prim.Native.Nat.{ℕ, _<_}
 use lib.Dec.{ltb}
 use Rattle.arena.specs.Game.{Rules}
-use Rattle.arena.specs.Claims.{never, Claims, Closed}
+use Rattle.marks.specs.Marks.{never}
+use Rattle.arena.specs.Claims.{Claims, Closed}
 use Rattle.arena.specs.TableRules.{Table-rules}
 use Rattle.arena.specs.Levels.{By-levels, Counts-attractor, Nonstop}
 use Rattle.arena.specs.Labels.{Labelled}
