@@ -6,6 +6,7 @@ use Prim.Native.Nat.{ℕ, zero, suc, _+_, _≤_, _<_}
 use native.Mathlib.Omega.{arith}
 use lib.ListN.{length, getD, length-map}
 use lib.Dec.{T}
+use Rattle.std.proofs.shelf.Lists.{getD-map}
 use Rattle.arena.specs.declared.player.Player.{Player}
 use Rattle.arena.specs.declared.player.Player.the-variants.{Pursuer, Runner}
 use Rattle.arena.specs.Game.{Rules, degree, move}
@@ -15,17 +16,12 @@ use Rattle.arena.specs.TableRules.{Table-rules}
 use Rattle.arena.specs.Folds.{Folds}
 use Rattle.theory.proofs.Global.{claims}
 
-getD-map : (φ : ℕ → ℕ) (l : List ℕ) (i : ℕ) → i < length l → getD (map φ l) i 0 ≡ φ (getD l i 0)
-getD-map φ [] i h = absurd (omega arith)
-getD-map φ (x ∷ l) zero h = refl
-getD-map φ (x ∷ l) (suc i) h = getD-map φ l i (omega arith)
-
 module _ (R′ R : Rules) (φ : ℕ → ℕ) (covers : Folds R′ R φ) where
   degrees : (x : ℕ) → degree R (φ x) ≡ degree R′ x
   degrees x = ap length (covers .lists x) ∙ length-map (R′ .moves x) φ
 
   moved : (x i : ℕ) → i < degree R′ x → move R (φ x) i ≡ φ (move R′ x i)
-  moved x i h = ap (λ (l : List ℕ). getD l i 0) (covers .lists x) ∙ getD-map φ (R′ .moves x) i h
+  moved x i h = ap (λ (l : List ℕ). getD l i 0) (covers .lists x) ∙ getD-map φ (R′ .moves x) i 0 0 h
 
   module _ (D : ℕ → Bool) (closed : Closed R D) where
     pub closed-up : Closed R′ (λ x. D (φ x))
