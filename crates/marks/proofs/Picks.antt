@@ -2,7 +2,7 @@
 use mathlib.Core.Path.{_≡_, refl, sym, ap, subst, _∙_}
 use mathlib.Core.Bool.{Bool, true, false, cond}
 use mathlib.Core.List.{List, [], _∷_}
-use mathlib.Core.Logic.{_⊎_, inl, inr}
+use mathlib.Core.Logic.{inl, inr}
 use Prim.Native.Nat.{ℕ, zero, suc, _+_, _%_, _^_, _<_, _≤_}
 use native.Mathlib.Omega.{arith}
 use lib.ListN.{length, getD}
@@ -15,8 +15,6 @@ use Rattle.marks.specs.declared.pick.Order.{Order}
 use Rattle.marks.specs.declared.pick.Order.the-variants.{Least, Greatest}
 use Rattle.marks.specs.declared.pick.Pick.{Pick}
 use Rattle.marks.specs.declared.pick.Pick.the-variants.{Nothing, At}
-use Rattle.marks.specs.declared.pursuer.PursuerPick.{PursuerPick}
-use Rattle.marks.specs.declared.runner.RunnerPick.{RunnerPick}
 
 -- ---- both orders
 
