@@ -60,6 +60,7 @@ later-best order m ms n j b worse other =
       earliest = λ i. elim i as (λ i. i < suc j → getD (m ∷ ms) i 0 ≡ n → ⊥) [ zero ↦ λ _. other | suc k ↦ λ lt. b .earliest k (omega arith) ];
     }
 
+-- what is picked after one entry more in front
 picked-front : (order : Order) (first m : ℕ) (ms : List ℕ) (rest : Pick) → Picked order (first + 1) ms rest → Picked order first (m ∷ ms) (better order (At m (first % 2 ^ 64)) rest)
 picked-front order first m ms Nothing none =
     (0, front-best order m ms (λ i lt. absurd (omega (arith, ap length none))), omega arith)
