@@ -1,4 +1,4 @@
--- What the laws of a joining give of a fold.
+-- Folds: how they pass to other joinings, and what the laws give of them.
 use mathlib.Core.Path.{_≡_, refl, sym, ap, _∙_}
 use mathlib.Core.List.{List, [], _∷_, _++_}
 use Prim.Native.Nat.{ℕ, _+_, _%_, _^_, _<_}
@@ -28,12 +28,13 @@ module _ {A B : Type 0} (neutral : A) (joined : A → A → A) (single : ℕ →
   folded-parts first (mark ∷ marks) =
       ap (joined-parts joined joined′ (single-parts single single′ mark (first % 2 ^ 64))) (folded-parts (first + 1) marks)
 
+-- what the laws give
 module _ {J : Type 0} {neutral : J} {joined : J → J → J} {single : ℕ → ℕ → J} {holds : J → Type 0} (laws : Laws neutral joined single holds) where
   abbrev total : ℕ → List ℕ → J
   total = folded neutral joined single
 
   -- words can hold every fold
-  pub total-holds : (first : ℕ) (xs : List ℕ) → holds (total first xs)
+  total-holds : (first : ℕ) (xs : List ℕ) → holds (total first xs)
   total-holds first [] = laws .neutral-holds
   total-holds first (x ∷ xs) = laws .joined-holds _ _ (laws .single-holds _ _) (total-holds (first + 1) xs)
 
@@ -43,6 +44,7 @@ module _ {J : Type 0} {neutral : J} {joined : J → J → J} {single : ℕ → �
   total-wraps a b (x ∷ xs) e =
       ap (λ p. joined (single x p) (total (a + 1) xs)) e ∙ ap (joined (single x (b % 2 ^ 64))) (total-wraps (a + 1) (b + 1) xs (omega arith))
 
+  -- the law of the cut before positions wrap
   cut-plain : (first : ℕ) (xs ys : List ℕ) → total first (xs ++ ys) ≡ joined (total first xs) (total (first + length xs) ys)
   cut-plain first [] ys =
       let here : first ≡ first + length {A = ℕ} [] = omega arith in

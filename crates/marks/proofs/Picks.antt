@@ -2,7 +2,7 @@
 use mathlib.Core.Path.{_≡_, refl, sym, ap, subst, _∙_}
 use mathlib.Core.Bool.{Bool, true, false, cond}
 use mathlib.Core.List.{List, [], _∷_}
-use mathlib.Core.Logic.{_⊎_, inl, inr}
+use mathlib.Core.Logic.{inl, inr}
 use Prim.Native.Nat.{ℕ, zero, suc, _+_, _%_, _^_, _<_, _≤_}
 use native.Mathlib.Omega.{arith}
 use lib.ListN.{length, getD}
@@ -15,8 +15,6 @@ use Rattle.marks.specs.declared.pick.Order.{Order}
 use Rattle.marks.specs.declared.pick.Order.the-variants.{Least, Greatest}
 use Rattle.marks.specs.declared.pick.Pick.{Pick}
 use Rattle.marks.specs.declared.pick.Pick.the-variants.{Nothing, At}
-use Rattle.marks.specs.declared.pursuer.PursuerPick.{PursuerPick}
-use Rattle.marks.specs.declared.runner.RunnerPick.{RunnerPick}
 
 -- ---- both orders
 
@@ -62,6 +60,7 @@ later-best order m ms n j b worse other =
       earliest = λ i. elim i as (λ i. i < suc j → getD (m ∷ ms) i 0 ≡ n → ⊥) [ zero ↦ λ _. other | suc k ↦ λ lt. b .earliest k (omega arith) ];
     }
 
+-- what is picked after one entry more in front
 picked-front : (order : Order) (first m : ℕ) (ms : List ℕ) (rest : Pick) → Picked order (first + 1) ms rest → Picked order first (m ∷ ms) (better order (At m (first % 2 ^ 64)) rest)
 picked-front order first m ms Nothing none =
     (0, front-best order m ms (λ i lt. absurd (omega (arith, ap length none))), omega arith)

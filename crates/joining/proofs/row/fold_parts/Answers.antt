@@ -1,4 +1,3 @@
-use mathlib.Core.Path.{sym, _∙_}
 use Rattle.joining.proofs.Folds.{total-cut}
 use Rattle.joining.proofs.row.fold_parts.Needs as need
 
