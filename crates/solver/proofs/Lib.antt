@@ -1,0 +1,9 @@
+pub mod Levels
+pub mod Kept
+pub mod Looks
+pub mod Closing
+pub mod Going
+pub mod Reaching
+pub mod Starting
+pub mod Ending
+pub mod Rounding
