@@ -21,11 +21,12 @@ live-words g false W fits = absurd (none-fits g fits)
 pub words-are : (live : Bool) (W : List ℕ) → live ≡ true → cond live W [] ≡ W
 words-are live W e = ap (λ (b : Bool). cond b W []) e
 
-pub ended : (g : Game) (live settled accepted : Bool) (W V : List ℕ) (rounds looks : ℕ)
+pub ended : (g : Game) (live settled accepted : Bool) (W V : List ℕ) (rounds looks : ℕ) → length V ≡ length W
     → Decides accepted ((live ≡ true) × Fits g (length W) × (settled ≡ true)) → (accepted ≡ true → Finished g W V) → (live ≡ true → accepted ≡ false → V ≡ fresh (length W)) → (live ≡ false → V ≡ W)
     → Ended g live (state live W rounds looks settled) W V accepted
-ended g live settled accepted W V rounds looks decides finished cleared untouched =
+ended g live settled accepted W V rounds looks long decides finished cleared untouched =
     record {
+      long = long;
       decided = (
         (λ a.
             let (l, fits, s) = decides .0 a in

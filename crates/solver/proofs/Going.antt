@@ -76,11 +76,14 @@ module _ (g : Game) (sound : Places-sound g) (sized : g .size ≤ 1048576) (j l 
           | yes y ↦ going .grew i y
           | no z ↦
               let (p, lt, e) = some-marked g (suc j) small W V round fewer in
-              let same : i ≡ j = omega arith in
-              (p, lt, subst (λ (k : ℕ). First (g .rules) p (suc k)) (sym same) (elim (next p lt) [
-                | inl y ↦ subst (λ (k : ℕ). First (g .rules) p k) e (y .first)
-                | inr n ↦ absurd (omega (arith, n .unmarked))
-              ]))
+              let same : i ≡ j = omega arith in (
+                p,
+                lt,
+                subst (λ (k : ℕ). First (g .rules) p (suc k)) (sym same) (elim (next p lt) [
+                  | inl y ↦ subst (λ (k : ℕ). First (g .rules) p k) e (y .first)
+                  | inr n ↦ absurd (omega (arith, n .unmarked))
+                ]),
+              )
         ];
         bound = omega (arith, going .bound);
         looked = more;

@@ -7,3 +7,4 @@ pub mod Reaching
 pub mod Starting
 pub mod Ending
 pub mod Rounding
+pub mod Told

@@ -3,19 +3,24 @@ use mathlib.Core.Bool.{Bool, true, false, cond}
 use mathlib.Core.List.{List, []}
 use mathlib.Core.Logic.{_⊎_, inl, inr}
 use mathlib.Core.Path.{_≡_, refl, sym, ap, subst, _∙_}
-use Prim.Native.Nat.{ℕ, min, _+_, _≤_}
+use Prim.Native.Nat.{ℕ, min, _+_, _≤_, _<_}
+use borrow.Author.Tests.{eq-eqb}
 use native.Mathlib.Omega.{arith}
 use lib.Dec.{eqb}
 use lib.ListN.{length}
 use Rattle.arena.specs.Game.{Game}
-use Rattle.arena.specs.Unfit.{Fits}
+use Rattle.std.specs.Results.{Cases, valueOr}
+use Rattle.std.specs.declared.result.Result.{Result}
+use Rattle.std.specs.declared.result.Result.the-variants.{Ok, Err}
+use Rattle.arena.specs.Unfit.{Fits, Cause}
+use Rattle.arena.specs.declared.unfit.Unfit.{Unfit}
 use Rattle.rounds.specs.Rounds.{Marks-round}
-use Rattle.rounds.specs.Words.{Rounded, last-round}
+use Rattle.rounds.specs.Words.{Rounded, blanks, last-round}
 use Rattle.rounds.specs.declared.made.Made.{Made}
 use Rattle.solver.specs.State.{State, state, capped, Accepts-round}
 use Rattle.solver.specs.Reached.{Reached, round}
 use Rattle.solver.specs.Progress.{Progress}
-use Rattle.solver.proofs.Starting.{none-fits}
+use Rattle.solver.proofs.Starting.{misfit, none-fits}
 use Rattle.solver.proofs.Reaching.{reached-more, reached-progress}
 
 -- a run that is told one round more
@@ -54,3 +59,13 @@ round-idle g live settled W rounds looks way fits =
       | inl l ↦ absurd (none-fits g (subst (λ (b : Bool). Fits g (length (cond b W []))) l fits))
       | inr s ↦ record { fits = fits; made = inl (s, refl, refl) }
     ]
+
+-- the places that a round told an arena that fits has marked: none settles the run, some leave fewer blank marks
+pub round-counts : (g : Game) (s t : State) (r : Result ℕ Unfit) (X : Type 0) → Fits g (length (s .words)) → Cases r (Accepts-round g s t) (λ e. Cause g (length (s .words)) e × X)
+    → (valueOr r 0 ≡ 0 → t .settled ≡ true) × (0 < valueOr r 0 → blanks (g .size) (t .words) < blanks (g .size) (s .words))
+round-counts g s t (Ok m) X fits accepts =
+    elim (accepts .made) [
+      | inl same ↦ ((λ z. ap (λ (x : State). x .settled) (same .2) ∙ same .0), (λ l. absurd (omega (arith, same .1))))
+      | inr made ↦ ((λ z. made .1 .ends ∙ eq-eqb m 0 z), (λ l. omega (arith, made .1 .marked)))
+    ]
+round-counts g s t (Err e) X fits refused = absurd (misfit g (length (s .words)) e (refused .0) fits)

@@ -27,12 +27,12 @@ misfit g words (Unsound p) cause fits = cause .2 .1 (fits .sound p (cause .2 .0)
 pub none-fits : (g : Game) → Fits g 0 → ⊥
 none-fits g fits = omega (arith, fits .two-each, fits .sized .0)
 
-pub begins : (g : Game) (W V : List ℕ) {X : Type 0} (r : Result X Unfit) (live : Bool) → live ≡ isOk r
+pub begins : (g : Game) (W V : List ℕ) {X : Type 0} (r : Result X Unfit) (live : Bool) → length V ≡ length W → live ≡ isOk r
     → Cases r (λ _. Fits g (length W) × Begun g V) (λ e. Cause g (length W) e × (V ≡ W)) → Begins g W V live (state live V 0 0 false)
-begins g W V (Ok x) live e (fits, begun) = inl (fits, e, begun, ap (λ (b : Bool). state b V 0 0 false) e)
-begins g W V (Err why) live e (cause, same) = inr ((λ fits. misfit g (length W) why cause fits), e, same, ap (λ (b : Bool). state b V 0 0 false) e)
+begins g W V (Ok x) live long e (fits, begun) = inl (fits, e, long, begun, ap (λ (b : Bool). state b V 0 0 false) e)
+begins g W V (Err why) live long e (cause, same) = inr ((λ fits. misfit g (length W) why cause fits), e, same, ap (λ (b : Bool). state b V 0 0 false) e)
 
 -- a run that is begun is reached by no call
-pub begun-reached : (g : Game) (W V : List ℕ) (live : Bool) (s : State) → length V ≡ length W → Begins g W V live s → Fits g (length W) → Reached g s
-begun-reached g W V live s long (inl (fits, l, begun, e)) fit = ([], (V, subst (λ (n : ℕ). Fits g n) (sym long) fits, begun, e))
-begun-reached g W V live s long (inr (unfit, l, same, e)) fit = absurd (unfit fit)
+pub begun-reached : (g : Game) (W V : List ℕ) (live : Bool) (s : State) → Begins g W V live s → Fits g (length W) → Reached g s
+begun-reached g W V live s (inl (fits, l, long, begun, e)) fit = ([], (V, subst (λ (n : ℕ). Fits g n) (sym long) fits, begun, e))
+begun-reached g W V live s (inr (unfit, l, same, e)) fit = absurd (unfit fit)

@@ -15,6 +15,7 @@ use Rattle.solver.specs.Whole.{Whole}
 -- a run in the state s over the words W is ended, told g, with the words V: finished where it may be, else abandoned; a run that is not live has touched no word.
 -- A finished table of a run that was told g throughout makes the whole claim.
 pub record Ended (g : Game) (live : Bool) (s : State) (W V : List ℕ) (accepted : Bool) : Type 0 where
+  pub long : length V ≡ length W
   pub decided : Decides accepted (May-finish g s)
   pub finished : accepted ≡ true → Finished g W V
   pub cleared : live ≡ true → accepted ≡ false → V ≡ fresh (length W)

@@ -28,7 +28,7 @@ start W = record { words = W; rounds = 0; looks = 0; settled = false }
 -- a begin on g turns the words W to V and gives a run: live with the table begun, or, where arena and table do not fit, with every word as it was
 abbrev pub Begins : Game → List ℕ → List ℕ → Bool → State → Type 0
 Begins g W V live s =
-    (Fits g (length W) × (live ≡ true) × Begun g V × (s ≡ start V)) ⊎
+    (Fits g (length W) × (live ≡ true) × (length V ≡ length W) × Begun g V × (s ≡ start V)) ⊎
     ((Fits g (length W) → ⊥) × (live ≡ false) × (V ≡ W) × (s ≡ start []))
 
 -- a counter stops at the largest number of 64 bits

@@ -33,6 +33,14 @@ pub struct Run<'a> {
     live: bool,
 }
 
+// What a run that is ended in place has made.
+#[derive(Clone, Copy)]
+pub(crate) struct Counters {
+    pub(crate) rounds: u32,
+    pub(crate) looks: u64,
+    pub(crate) accepted: bool,
+}
+
 // Whether a run can begin on the arena with the table, or why not. It makes no run.
 pub fn can_begin<A: Arena>(arena: &A, table: &[u32]) -> Result<(), Unfit>
     ensures { λ r. ⌜ Cases r (λ _. Fits (A·Arena .game (now (arena .entry))) (length (now (table .entry)))) (Cause (A·Arena .game (now (arena .entry))) (length (now (table .entry)))) ⌝ }
@@ -98,7 +106,6 @@ impl<'a> Run<'a> {
 
     // Finishes the run, told the arena; one that cannot be finished is abandoned, and its finished table is empty.
     pub fn finish<A: Arena>(self, arena: &A) -> Finished<'a>
-        ensures bound { λ r. ⌜ name (r .table) ≡ name (self .entry .table) ⌝ }
         ensures ended { λ r. ⌜ Ended (A·Arena .game (now (arena .entry))) (self .entry .live) (state (self .entry .live) (now (self .entry .table)) (self .entry .rounds) (self .entry .looks) (self .entry .settled)) (now (self .entry .table)) (now (r .table)) (r .accepted) ⌝ }
         ensures counted { λ r. ⌜ (r .rounds ≡ self .entry .rounds) × (r .looks ≡ self .entry .looks) ⌝ }
     {
@@ -112,6 +119,41 @@ impl<'a> Run<'a> {
         let accepted = end_table(arena, table, live, settled);
         Finished {
             table,
+            rounds,
+            looks,
+            accepted,
+        }
+    }
+
+    // Makes rounds until the run is settled.
+    pub(crate) fn settle<A: Arena>(&mut self, arena: &A)
+        requires { ⌜ Reached (A·Arena .game (now arena)) (state (now self .live) (now (now self .table)) (now self .rounds) (now self .looks) (now self .settled)) ⌝ }
+        ensures bound { λ _. ⌜ name (now (self .exit) .table) ≡ name (now (self .entry) .table) ⌝ }
+        ensures reached { λ _. ⌜ Reached (A·Arena .game (now (arena .entry))) (state (now (self .exit) .live) (now (now (self .exit) .table)) (now (self .exit) .rounds) (now (self .exit) .looks) (now (self .exit) .settled)) ⌝ }
+        ensures settled { λ _. ⌜ now (self .exit) .settled ≡ true ⌝ }
+    {
+        'rounds: loop {
+            let marked = self.round(arena).unwrap_or(0);
+            if marked == 0 {
+                break 'rounds;
+            }
+        }
+    }
+
+    // Ends the run in place as a finish does: the table is the caller's again.
+    pub(crate) fn close<A: Arena>(self, arena: &A) -> Counters
+        ensures ended { λ r. ⌜ Ended (A·Arena .game (now (arena .entry))) (self .entry .live) (state (self .entry .live) (now (self .entry .table)) (self .entry .rounds) (self .entry .looks) (self .entry .settled)) (now (self .entry .table)) (now (self .exit .0)) (r .accepted) ⌝ }
+        ensures counted { λ r. ⌜ (r .rounds ≡ self .entry .rounds) × (r .looks ≡ self .entry .looks) ⌝ }
+    {
+        let Run {
+            table,
+            rounds,
+            looks,
+            settled,
+            live,
+        } = self;
+        let accepted = end_table(arena, table, live, settled);
+        Counters {
             rounds,
             looks,
             accepted,

@@ -6,7 +6,6 @@ pub returns : need.returns
 returns g c =
     let e = c .end-table-accepted .ensures in
     record {
-      bound = refl;
-      ended = ended (g .A·Arena .game (c .args .arena .now)) _ _ _ _ _ _ _ (e .decided) (e .finished) (e .cleared) (e .untouched);
+      ended = ended (g .A·Arena .game (c .args .arena .now)) _ _ _ _ _ _ _ (c .end-table-accepted .kept .table) (e .decided) (e .finished) (e .cleared) (e .untouched);
       counted = (refl, refl);
     }
