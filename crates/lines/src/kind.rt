@@ -5,7 +5,7 @@ ghost use Rattle.lines.specs.Reading.{Says};
 ghost use Rattle.lines.specs.Values.{bit};
 
 // What a field is.
-#[derive(Clone, Copy, Debug)]
+#[derive(Clone, Copy)]
 pub enum Kind {
     Number,
     Pattern,

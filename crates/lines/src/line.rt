@@ -10,11 +10,10 @@ ghost use Rattle.lines.specs.Reading.{ReadsRest, ReadsAfter};
 use crate::field::take_field;
 use crate::kind::Kind;
 use crate::part::Part;
-use crate::part::PartDebug;
 use crate::refusal::Refusal;
 
 // What a line is.
-#[derive(Clone, Copy, Debug)]
+#[derive(Clone, Copy)]
 pub enum Mark {
     Board,
     Gate,
@@ -23,7 +22,7 @@ pub enum Mark {
 }
 
 // What a line says, by its fields.
-#[derive(Clone, Copy, Debug)]
+#[derive(Clone, Copy)]
 pub enum Line<'a> {
     Board {
         n: Part<'a>,
@@ -40,7 +39,7 @@ pub enum Line<'a> {
 }
 
 // A line with its whole text, and the offset of the next.
-#[derive(Clone, Copy, Debug)]
+#[derive(Clone, Copy)]
 pub struct Read<'a> {
     pub text: Part<'a>,
     pub line: Line<'a>,

@@ -2,7 +2,7 @@ ghost use Rattle.lines.specs.Values.{Numbered, Stepped};
 use crate::kind::step_bit;
 
 // A part of a sheet, with the offset of its first byte.
-#[derive(Clone, Copy, Debug)]
+#[derive(Clone, Copy)]
 pub struct Part<'a> {
     pub bytes: &'a [u8],
     pub offset: usize,
