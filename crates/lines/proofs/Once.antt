@@ -14,12 +14,13 @@ use Rattle.lines.specs.declared.line.Mark.{Mark}
 use Rattle.lines.specs.declared.line.Mark.the-variants.{Board, Gate, Trap, End}
 use Rattle.lines.specs.declared.line.Read.{Read}
 use Rattle.lines.specs.declared.part.Part.{Part}
-use Rattle.lines.specs.declared.refusal.Layer.the-variants as layer
+use Rattle.lines.specs.declared.refusal.Refusal.the-variants.{NoLine}
 use Rattle.lines.specs.declared.refusal.Refusal.{Refusal}
+use Rattle.lines.specs.declared.refusal.Told.{Told}
 use Rattle.lines.specs.Grammar.{FieldOf, RestOf, first, second, kinds, Marked, LineOf, Viable, Stuck, Refused}
 use Rattle.lines.specs.Lines.{mark-of, fields, spaced, line-bytes, Laid, Line-at, Declined, unmarked, unlined, Answers, start, ahead, Reads}
 use Rattle.lines.specs.Reading.{Ends}
-use Rattle.lines.specs.Refusals.{Told, told}
+use Rattle.lines.specs.Refusals.{told}
 use Rattle.lines.proofs.Fields.{compare, same, longer, shorter, byte-of, begins, split}
 use Rattle.lines.proofs.Refusing.{cut-after}
 use Rattle.lines.proofs.Texts.{answer-parts}
@@ -115,7 +116,7 @@ declined-once at l t s (unlined m after place marked refused is) (unmarked none 
 declined-once at l t s (unlined m after p marked refused is) (unlined n after′ q marked′ refused′ is′) =
     let same-mark : n ≡ m = mark-once n m l _ _ marked′ marked in
     let e : p ≡ q = refused-once (LineOf m) at l p q refused (subst (λ x. Refused (LineOf x) at l q) same-mark refused′) in
-    is ∙ ap (λ x. record { number = 5; offset = x; layer = layer.Line }) e ∙ sym is′
+    is ∙ ap (λ x. told (NoLine x)) e ∙ sym is′
 
 laid-rest : (at : ℕ) (ks : List Kind) (fs : List Part) → Laid at ks fs → RestOf ks (spaced fs)
 laid-rest at [] [] h = refl

@@ -16,8 +16,9 @@ use Rattle.lines.specs.declared.line.Read.{Read}
 use Rattle.lines.specs.declared.part.Part.{Part}
 use Rattle.lines.specs.declared.refusal.Layer.the-variants as layer
 use Rattle.lines.specs.declared.refusal.Refusal.{Refusal}
+use Rattle.lines.specs.declared.refusal.Told.{Told}
 use Rattle.lines.specs.Grammar.{FieldOf, kinds, first, second, Marked, LineOf, Refused}
-use Rattle.lines.specs.Refusals.{Told, told}
+use Rattle.lines.specs.Refusals.{told}
 
 -- the mark of a line
 abbrev pub mark-of : Line → Mark

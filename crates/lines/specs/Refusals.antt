@@ -1,17 +1,10 @@
 -- What each refusal of a line tells.
-use Prim.Native.Nat.{ℕ}
-use Rattle.lines.specs.declared.refusal.Layer.{Layer}
 use Rattle.lines.specs.declared.refusal.Layer.the-variants.{Line}
 use Rattle.lines.specs.declared.refusal.Refusal.{Refusal}
 use Rattle.lines.specs.declared.refusal.Refusal.the-variants.{NoMark, NoLine}
+use Rattle.lines.specs.declared.refusal.Told.{Told}
 
--- a rule's number, the offset of the byte at fault, and what the rule is about
-pub record Told : Type 0 where
-  pub number : ℕ
-  pub offset : ℕ
-  pub layer : Layer
-
--- what each case tells
+-- its number, its offset and its layer
 abbrev pub told : Refusal → Told
 told (NoMark offset) = record { number = 4; offset = offset; layer = Line }
 told (NoLine offset) = record { number = 5; offset = offset; layer = Line }

@@ -5,8 +5,13 @@ ghost use Rattle.std.specs.Results.{Cases};
 ghost use Rattle.lines.specs.Grammar.{Refused, RestOf};
 ghost use Rattle.lines.specs.Reading.{Run, Longest, Took};
 use crate::kind::Kind;
+use crate::kind::MOST_STEPS;
 use crate::kind::can_have;
 use crate::part::Part;
+
+const FEWEST: usize = 1;
+
+const MOST_DIGITS: usize = 3;
 
 // A field that was read, and what follows it, from the offset `at` on.
 #[derive(Clone, Copy)]
@@ -33,8 +38,8 @@ fn field_len(kind: Kind, body: &[u8]) -> usize
 {
     match (kind, body) {
         (Kind::Number, [b'0', ..]) => 1,
-        (Kind::Number, _) => run(kind, body, 3),
-        (Kind::Pattern, _) => run(kind, body, 32),
+        (Kind::Number, _) => run(kind, body, MOST_DIGITS),
+        (Kind::Pattern, _) => run(kind, body, MOST_STEPS),
     }
 }
 
@@ -47,7 +52,7 @@ pub(crate) fn take_field<'a>(kind: Kind, rest: &'a [u8], at: usize) -> Result<Ta
         return Err(at);
     };
     let n = field_len(kind, body);
-    if n == 0 {
+    if n < FEWEST {
         return Err(at + 1);
     }
     let (bytes, rest) = body.split_at(n);

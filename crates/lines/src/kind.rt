@@ -4,6 +4,8 @@ ghost use Rattle.lines.specs.Grammar.{Byte};
 ghost use Rattle.lines.specs.Reading.{Says};
 ghost use Rattle.lines.specs.Values.{bit};
 
+pub(crate) const MOST_STEPS: usize = 32;
+
 // What a field is.
 #[derive(Clone, Copy)]
 pub enum Kind {

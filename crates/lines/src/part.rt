@@ -1,4 +1,5 @@
 ghost use Rattle.lines.specs.Values.{Numbered, Stepped};
+use crate::kind::MOST_STEPS;
 use crate::kind::step_bit;
 
 // A part of a sheet, with the offset of its first byte.
@@ -27,7 +28,7 @@ impl Part<'_> {
         ensures { λ r. ⌜ Stepped (self .entry .bytes .now) r ⌝ }
     {
         let mut bits = 0;
-        for i in (0..self.bytes.len().min(32)).rev() {
+        for i in (0..self.bytes.len().min(MOST_STEPS)).rev() {
             bits = bits * 2 + step_bit(self.bytes[i]);
         }
         bits

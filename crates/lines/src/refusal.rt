@@ -9,42 +9,39 @@ pub enum Layer {
     Pattern,
 }
 
+// A rule's number, the offset in the sheet where it is broken, and what the rule is about.
+#[derive(Clone, Copy, PartialEq, Eq, Debug)]
+pub struct Told {
+    pub number: u8,
+    pub offset: usize,
+    pub layer: Layer,
+}
+
 // Why no line is read.
 #[derive(Clone, Copy, PartialEq, Eq, Debug)]
 pub enum Refusal {
-    // There is no mark: fewer than two bytes, or others.
+    // There are fewer than two bytes, or they are no mark.
     NoMark { offset: usize },
     // No line of the mark goes on so.
     NoLine { offset: usize },
 }
 
 impl Refusal {
-    // The rule's number.
-    pub fn number(self) -> u8
-        ensures { λ r. ⌜ r ≡ told self .number ⌝ }
+    // What the refusal tells.
+    pub fn told(self) -> Told
+        ensures { λ r. ⌜ r ≡ told self ⌝ }
     {
         match self {
-            Refusal::NoMark { .. } => 4,
-            Refusal::NoLine { .. } => 5,
-        }
-    }
-
-    // The offset in the sheet of the byte at fault.
-    pub fn offset(self) -> usize
-        ensures { λ r. ⌜ r ≡ told self .offset ⌝ }
-    {
-        match self {
-            Refusal::NoMark { offset } => offset,
-            Refusal::NoLine { offset } => offset,
-        }
-    }
-
-    pub fn layer(self) -> Layer
-        ensures { λ r. ⌜ r ≡ told self .layer ⌝ }
-    {
-        match self {
-            Refusal::NoMark { .. } => Layer::Line,
-            Refusal::NoLine { .. } => Layer::Line,
+            Refusal::NoMark { offset } => Told {
+                number: 4,
+                offset,
+                layer: Layer::Line,
+            },
+            Refusal::NoLine { offset } => Told {
+                number: 5,
+                offset,
+                layer: Layer::Line,
+            },
         }
     }
 }
