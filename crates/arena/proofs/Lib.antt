@@ -1,0 +1,11 @@
+pub mod Plays
+pub mod Global
+pub mod Ends
+pub mod Back
+pub mod Cover
+pub mod Levels
+pub mod Labels
+pub mod Sums
+pub mod Finite
+pub mod Below
+pub mod Stable

@@ -1,0 +1,11 @@
+pub mod Game
+pub mod Plays
+pub mod Claims
+pub mod TableRules
+pub mod Levels
+pub mod Labels
+pub mod Folds
+pub mod Theory
+pub mod Questions
+pub mod Sound
+pub mod Unfit

@@ -1,0 +1,6 @@
+// The two players.
+#[derive(Clone, Copy, PartialEq, Eq, Debug)]
+pub enum Player {
+    Runner,
+    Pursuer,
+}

@@ -1,0 +1,4 @@
+pub mod SetBits
+pub mod Clocks
+pub mod Limits
+pub mod Drafted

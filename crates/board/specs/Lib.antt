@@ -1,0 +1,10 @@
+pub mod Patterns
+pub mod PatternRefused
+pub mod Gates
+pub mod Clock
+pub mod SpotsRefused
+pub mod GateRefused
+pub mod SizeRefused
+pub mod Drafts
+pub mod Boards
+pub mod Laws
