@@ -1,6 +1,6 @@
 -- Fields: what their bytes and their lengths give.
 use mathlib.Core.Path.{_≡_, refl, sym, ap, subst, _∙_}
-use mathlib.Core.List.{List, [], _∷_, _++_}
+use mathlib.Core.List.{List, [], _∷_, _++_, append-assoc}
 use mathlib.Core.Logic.{_⊎_, inl, inr}
 use Prim.Native.Nat.{ℕ, _+_, _≤_, _<_}
 use native.Mathlib.Nat.{add-zero}
@@ -12,7 +12,7 @@ use Rattle.std.proofs.shelf.Lists.{take-more}
 use Rattle.std.specs.shelf.Lists.{All}
 use Rattle.lines.specs.declared.kind.Kind.{Kind}
 use Rattle.lines.specs.declared.kind.Kind.the-variants.{Number, Pattern}
-use Rattle.lines.specs.Grammar.{Byte, most, Plain, FieldOf, RestOf}
+use Rattle.lines.specs.Grammar.{Byte, most, Plain, FieldOf, Forms, spaced}
 use Rattle.lines.specs.Reading.{Run, Longest, Ends}
 
 -- two ways to cut one text
@@ -60,7 +60,7 @@ byte-low Number b h = h .0
 byte-low Pattern b h = elim h [ inl e ↦ omega arith | inr e ↦ omega arith ]
 
 -- the bytes of a field are none that stands between fields
-pub byte-of : (k : Kind) (f : List ℕ) (b : ℕ) (u : List ℕ) → FieldOf k (f ++ (b ∷ u)) → 48 ≤ b
+byte-of : (k : Kind) (f : List ℕ) (b : ℕ) (u : List ℕ) → FieldOf k (f ++ (b ∷ u)) → 48 ≤ b
 byte-of k f b u h = byte-low k b (all-at (Byte k) f b u (h .bytes))
 
 byte-zero : (k : Kind) → Byte k 48
@@ -79,32 +79,37 @@ plain-one Pattern b = tt
 pub zero-field : (k : Kind) → FieldOf k (48 ∷ [])
 zero-field k = record { some = omega arith; short = most-some k; bytes = (byte-zero k, tt); plain = plain-one k 48 }
 
--- what is left begins with a space or byte 10
-pub record Begins (r : List ℕ) : Type 0 where
-  pub head : ℕ
-  pub tail : List ℕ
-  pub is : r ≡ head ∷ tail
-  pub low : head ≤ 32
-
-pub begins : (ks : List Kind) (r : List ℕ) → RestOf ks r → Begins r
-begins [] r h = record { head = 10; tail = []; is = h; low = omega arith }
-begins (k ∷ ks) r h = record { head = 32; tail = _; is = h .parts; low = omega arith }
-
 ends-longer : (k : Kind) (f x : List ℕ) (b : ℕ) (u : List ℕ) → Ends k f x → x ≡ b ∷ u → FieldOf k (f ++ (b ∷ [])) → ⊥
 ends-longer k f [] b u ends e h = let z : _≡_ {A = ℕ} 0 1 = cc in omega arith
 ends-longer k f (c ∷ x) b u ends e h = let s : b ≡ c = cc in ends (subst (λ d. FieldOf k (f ++ (d ∷ []))) s h)
 
 -- a text is cut after its field in one way
-pub split : (k : Kind) (ks : List Kind) (f x g r : List ℕ) → FieldOf k f → FieldOf k g → RestOf ks r → Ends k f x → f ++ x ≡ g ++ r → (f ≡ g) × (x ≡ r)
-split k ks f x g r hf hg hr ends e =
-    elim (compare f x g r e) [
+pub cut-once : (k : Kind) (f x g y : List ℕ) → FieldOf k f → FieldOf k g → Ends k f x → Ends k g y → f ++ x ≡ g ++ y → (f ≡ g) × (x ≡ y)
+cut-once k f x g y hf hg ends ends′ e =
+    elim (compare f x g y e) [
       | same p q ↦ (p, q)
-      | longer b u p q ↦ absurd (ends-longer k f x b (u ++ r) ends q (closed k f b u (subst (FieldOf k) p hg)))
-      | shorter b u p q ↦
-          let at = begins ks r hr in
-          let eq : b ≡ at .head = cc (q, at .is) in
-          absurd (omega (arith, byte-of k g b u (subst (FieldOf k) p hf), at .low))
+      | longer b u p q ↦ absurd (ends-longer k f x b (u ++ y) ends q (closed k f b u (subst (FieldOf k) p hg)))
+      | shorter b u p q ↦ absurd (ends-longer k g y b (u ++ x) ends′ q (closed k g b u (subst (FieldOf k) p hf)))
     ]
+
+-- neither a space nor byte 10 goes on with a field
+pub spaced-ends : (k : Kind) (f : List ℕ) (fs : List (List ℕ)) (x : List ℕ) → Ends k f (spaced fs ++ x)
+spaced-ends k f [] x = λ h. omega (arith, byte-of k f 10 [] h)
+spaced-ends k f (g ∷ fs) x = λ h. omega (arith, byte-of k f 32 [] h)
+
+-- fields between spaces are told apart
+pub spaced-once : (ks : List Kind) (fs gs : List (List ℕ)) (x y : List ℕ) → Forms ks fs → Forms ks gs → spaced fs ++ x ≡ spaced gs ++ y → (fs ≡ gs) × (x ≡ y)
+spaced-once [] [] [] x y h k e = (refl, cc)
+spaced-once [] [] (g ∷ gs) x y h k e = absurd k
+spaced-once [] (f ∷ fs) gs x y h k e = absurd h
+spaced-once (a ∷ ks) [] gs x y h k e = absurd h
+spaced-once (a ∷ ks) (f ∷ fs) [] x y h k e = absurd k
+spaced-once (a ∷ ks) (f ∷ fs) (g ∷ gs) x y h k e =
+    let whole : (f ++ spaced fs) ++ x ≡ (g ++ spaced gs) ++ y = cc in
+    let cut : f ++ (spaced fs ++ x) ≡ g ++ (spaced gs ++ y) = sym (append-assoc f (spaced fs) x) ∙ whole ∙ append-assoc g (spaced gs) y in
+    let once = cut-once a f (spaced fs ++ x) g (spaced gs ++ y) (h .0) (k .0) (spaced-ends a f fs x) (spaced-ends a g gs y) cut in
+    let rest = spaced-once ks fs gs x y (h .1) (k .1) (once .1) in
+    (cc (once .0, rest .0), rest .1)
 
 run-all : (k : Kind) (limit : ℕ) (body : List ℕ) (n : ℕ) → Run k limit body n → All (Byte k) (take n body)
 run-all k limit body n r =

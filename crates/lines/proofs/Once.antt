@@ -5,24 +5,20 @@ use mathlib.Core.Path.{_≡_, refl, sym, ap, subst, _∙_}
 use Prim.Native.Nat.{ℕ, _+_, _≤_, _<_}
 use native.Mathlib.Omega.{arith}
 use lib.Dec.{eqb}
-use lib.ListN.{length, length-append}
+use lib.ListN.{length, getD}
 use Rattle.std.specs.declared.result.Result.{Result}
 use Rattle.std.specs.declared.result.Result.the-variants.{Ok, Err}
 use Rattle.std.specs.Results.{Cases}
-use Rattle.lines.specs.declared.kind.Kind.{Kind}
 use Rattle.lines.specs.declared.line.Mark.{Mark}
 use Rattle.lines.specs.declared.line.Mark.the-variants.{Board, Gate, Trap, End}
 use Rattle.lines.specs.declared.line.Read.{Read}
-use Rattle.lines.specs.declared.part.Part.{Part}
 use Rattle.lines.specs.declared.refusal.Refusal.the-variants.{NoLine}
 use Rattle.lines.specs.declared.refusal.Refusal.{Refusal}
 use Rattle.lines.specs.declared.refusal.Told.{Told}
-use Rattle.lines.specs.Grammar.{FieldOf, RestOf, first, second, kinds, Marked, LineOf, Viable, Stuck, Refused}
-use Rattle.lines.specs.Lines.{mark-of, fields, spaced, line-bytes, Laid, Line-at, Declined, unmarked, unlined, Answers, start, ahead, Reads}
-use Rattle.lines.specs.Reading.{Ends}
+use Rattle.lines.specs.Grammar.{Forms, spaced, first, second, kinds, Marked, LineOf, Viable, Stuck, Refused}
+use Rattle.lines.specs.Lines.{Entry, board, gate, trap, end, mark-of, texts, Formed, line-bytes, entry-of, Declined, unmarked, unlined, Answers, start, ahead, Reads}
 use Rattle.lines.specs.Refusals.{told}
-use Rattle.lines.proofs.Fields.{compare, same, longer, shorter, byte-of, begins, split}
-use Rattle.lines.proofs.Refusing.{cut-after}
+use Rattle.lines.proofs.Fields.{compare, same, longer, shorter, spaced-once}
 use Rattle.lines.proofs.Texts.{answer-parts}
 
 -- what is stuck after p does not begin a text of L with one byte more
@@ -42,23 +38,13 @@ refused-once L at l p q r s =
       | shorter b u e f ↦ absurd (not-on L (s .seen) (s .left) b _ u (r .viable .on) (s .stuck) f (subst (λ x. L (x ++ r .viable .on)) e (r .viable .makes)))
     ]
 
-ends-low : (k : Kind) (f r : List ℕ) (b : ℕ) (q : List ℕ) → r ≡ b ∷ q → b ≤ 32 → (x : List ℕ) → Ends k f (r ++ x)
-ends-low k f [] b q e low x = let z : _≡_ {A = ℕ} 0 1 = cc in absurd (omega arith)
-ends-low k f (c ∷ r) b q e low x = λ h. let s : b ≡ c = cc in omega (arith, byte-of k f c [] h)
-
--- no text of the grammar goes on after its end
-rest-ends : (ks : List Kind) (a : List ℕ) (b : ℕ) (x : List ℕ) → RestOf ks a → RestOf ks (a ++ (b ∷ x)) → ⊥
-rest-ends [] a b x h t = omega (arith, ap length h, simp length-append at (ap length t))
-rest-ends (k ∷ ks) a b x h t =
-    let low = begins ks (h .after) (h .goes-on) in
-    let moved : a ++ (b ∷ x) ≡ 32 ∷ (h .text ++ (h .after ++ (b ∷ x))) = ap (λ y. y ++ (b ∷ x)) (h .parts) ∙ ap (λ y. 32 ∷ y) (append-assoc (h .text) (h .after) (b ∷ x)) in
-    rest-ends ks (h .after) b x (h .goes-on) (cut-after k ks (h .text) (h .after ++ (b ∷ x)) (h .good) (ends-low k (h .text) (h .after) (low .head) (low .tail) (low .is) (low .low) (b ∷ x)) (subst (RestOf (k ∷ ks)) moved t))
-
+-- no line goes on after its end
 line-ends : (m : Mark) (a : List ℕ) (b : ℕ) (x : List ℕ) → LineOf m a → LineOf m (a ++ (b ∷ x)) → ⊥
 line-ends m a b x h t =
-    let moved : a ++ (b ∷ x) ≡ first m ∷ second m ∷ (h .after ++ (b ∷ x)) = ap (λ y. y ++ (b ∷ x)) (h .marked .parts) in
-    let on : t .after ≡ h .after ++ (b ∷ x) = cc (moved, t .marked .parts) in
-    rest-ends (kinds m) (h .after) b x (h .goes-on) (subst (RestOf (kinds m)) on (t .goes-on))
+    let front : a ++ (b ∷ x) ≡ first m ∷ second m ∷ (spaced (h .texts) ++ (b ∷ x)) = ap (λ y. y ++ (b ∷ x)) (h .parts) in
+    let on : spaced (h .texts) ++ (b ∷ x) ≡ spaced (t .texts) = cc (front, t .parts) in
+    let once = spaced-once (kinds m) (h .texts) (t .texts) (b ∷ x) [] (h .formed) (t .formed) (on ∙ sym (append-nil (spaced (t .texts)))) in
+    omega (arith, ap length (once .1))
 
 -- a text that begins with a line is not refused
 line-stands : (m : Mark) (at : ℕ) (p q : List ℕ) (place : ℕ) → LineOf m p → Refused (LineOf m) at (p ++ q) place → ⊥
@@ -88,28 +74,40 @@ mark-once m n l after more h t =
     let e : first m ≡ first n = cc (h .parts, t .parts) in
     sym (by-first-is m) ∙ ap by-first e ∙ by-first-is n
 
-front-mark : (m : Mark) (p q : List ℕ) → (h : LineOf m p) → Marked m (p ++ q) (h .after ++ q)
-front-mark m p q h = record { parts = ap (λ y. y ++ q) (h .marked .parts) }
+rebuilt : Mark → List (List ℕ) → Entry
+rebuilt Board fs = board (getD fs 0 [])
+rebuilt Gate fs = gate (getD fs 0 []) (getD fs 1 []) (getD fs 2 [])
+rebuilt Trap fs = trap (getD fs 0 [])
+rebuilt End fs = end
+
+rebuilt-is : (e : Entry) → rebuilt (mark-of e) (texts e) ≡ e
+unfolding rebuilt
+rebuilt-is (board n) = refl
+rebuilt-is (gate u v p) = refl
+rebuilt-is (trap v) = refl
+rebuilt-is end = refl
+
+front-mark : (e : Entry) (l x : List ℕ) → l ≡ line-bytes e ++ x → Marked (mark-of e) l (spaced (texts e) ++ x)
+front-mark e l x p = record { parts = p }
 
 -- a text begins with one line
-line-once : (m n : Mark) (p q r s : List ℕ) → LineOf m p → LineOf n r → p ++ q ≡ r ++ s → p ≡ r
-line-once m n p q r s h t e =
-    let same-mark : m ≡ n = mark-once m n (p ++ q) _ _ (front-mark m p q h) (subst (λ l. Marked n l (t .after ++ s)) (sym e) (front-mark n r s t)) in
-    elim (compare p q r s e) [
-      | same f g ↦ f
-      | longer b u f g ↦ absurd (line-ends n p b u (subst (λ x. LineOf x p) same-mark h) (subst (LineOf n) f t))
-      | shorter b u f g ↦ absurd (line-ends m r b u (subst (λ x. LineOf x r) (sym same-mark) t) (subst (LineOf m) f h))
-    ]
+pub line-once : (d e : Entry) (x y : List ℕ) → Formed d → Formed e → line-bytes d ++ x ≡ line-bytes e ++ y → (d ≡ e) × (x ≡ y)
+line-once d e x y h k p =
+    let m : mark-of d ≡ mark-of e = mark-once _ _ _ _ _ (front-mark d (line-bytes d ++ x) x refl) (front-mark e (line-bytes d ++ x) y p) in
+    let after : spaced (texts d) ++ x ≡ spaced (texts e) ++ y = cc in
+    let once = spaced-once (kinds (mark-of d)) (texts d) (texts e) x y h (subst (λ a. Forms (kinds a) (texts e)) (sym m) k) after in
+    (sym (rebuilt-is d) ∙ ap (λ a. rebuilt a (texts d)) m ∙ ap (rebuilt (mark-of e)) (once .0) ∙ rebuilt-is e, once .1)
 
 -- what begins with a line is not declined
-apart : (at : ℕ) (m : Mark) (p q l : List ℕ) (t : Told) → LineOf m p → l ≡ p ++ q → Declined at l t → ⊥
-apart at m p q l t h e (unmarked none is) = none m (h .after ++ q) (subst (λ x. Marked m x (h .after ++ q)) (sym e) (front-mark m p q h))
-apart at m p q l t h e (unlined n after place marked refused is) =
-    let same-mark : n ≡ m = mark-once n m l _ _ marked (subst (λ x. Marked m x (h .after ++ q)) (sym e) (front-mark m p q h)) in
-    line-stands m at p q place h (subst (λ x. Refused (LineOf m) at x place) e (subst (λ x. Refused (LineOf x) at l place) same-mark refused))
+pub apart : (at : ℕ) (e : Entry) (l x : List ℕ) (t : Told) → Formed e → l ≡ line-bytes e ++ x → Declined at l t → ⊥
+apart at e l x t h p (unmarked none is) = none (mark-of e) (spaced (texts e) ++ x) (front-mark e l x p)
+apart at e l x t h p (unlined n after place marked refused is) =
+    let m : n ≡ mark-of e = mark-once n (mark-of e) l _ _ marked (front-mark e l x p) in
+    let line : LineOf (mark-of e) (line-bytes e) = record { texts = texts e; formed = h; parts = refl } in
+    line-stands (mark-of e) at (line-bytes e) x place line (subst (λ y. Refused (LineOf (mark-of e)) at y place) p (subst (λ y. Refused (LineOf y) at l place) m refused))
 
 -- a text is declined in one way
-declined-once : (at : ℕ) (l : List ℕ) (t s : Told) → Declined at l t → Declined at l s → t ≡ s
+pub declined-once : (at : ℕ) (l : List ℕ) (t s : Told) → Declined at l t → Declined at l s → t ≡ s
 declined-once at l t s (unmarked none is) (unmarked none′ is′) = is ∙ sym is′
 declined-once at l t s (unmarked none is) (unlined n after place marked refused is′) = absurd (none n after marked)
 declined-once at l t s (unlined m after place marked refused is) (unmarked none is′) = absurd (none m after marked)
@@ -118,22 +116,12 @@ declined-once at l t s (unlined m after p marked refused is) (unlined n after′
     let e : p ≡ q = refused-once (LineOf m) at l p q refused (subst (λ x. Refused (LineOf x) at l q) same-mark refused′) in
     is ∙ ap (λ x. told (NoLine x)) e ∙ sym is′
 
-laid-rest : (at : ℕ) (ks : List Kind) (fs : List Part) → Laid at ks fs → RestOf ks (spaced fs)
-laid-rest at [] [] h = refl
-laid-rest at [] (f ∷ fs) h = absurd h
-laid-rest at (k ∷ ks) [] h = absurd h
-laid-rest at (k ∷ ks) (f ∷ fs) h = record { text = f .bytes .now; after = spaced fs; parts = refl; good = h .0; goes-on = laid-rest (at + 1 + length (f .bytes .now)) ks fs (h .2) }
-
--- the line that is read is one of the grammar
-read-line : (at : ℕ) (l : List ℕ) (r : Read) → Line-at at l r → LineOf (mark-of (r .line)) (line-bytes (r .line))
-read-line at l r h = record { after = spaced (fields (r .line)); marked = record { parts = refl }; goes-on = laid-rest _ _ _ (h .laid) }
-
-sole-line : (at : ℕ) (l : List ℕ) (r : Result Read Refusal) → Answers at l r → (m : Mark) (p q : List ℕ) → LineOf m p → l ≡ p ++ q → Cases r (λ x. line-bytes (x .line) ≡ p) (λ _. ⊥)
-sole-line at l (Ok x) h m p q t e = line-once _ m (line-bytes (x .line)) (h .after) p q (read-line at l x h) t (sym (h .parts) ∙ e)
-sole-line at l (Err why) h m p q t e = apart at m p q l (told why) t e h
+sole-line : (at : ℕ) (l : List ℕ) (r : Result Read Refusal) → Answers at l r → (e : Entry) (after : List ℕ) → Formed e → l ≡ line-bytes e ++ after → Cases r (λ x. entry-of (x .line) ≡ e) (λ _. ⊥)
+sole-line at l (Ok x) h e after formed p = line-once (entry-of (x .line)) e (h .after) after (h .formed) formed (sym (h .parts) ∙ p) .0
+sole-line at l (Err why) h e after formed p = apart at e l after (told why) formed p h
 
 sole-refusal : (at : ℕ) (l : List ℕ) (r : Result Read Refusal) → Answers at l r → (t : Told) → Declined at l t → Cases r (λ _. ⊥) (λ why. told why ≡ t)
-sole-refusal at l (Ok x) h t d = apart at _ (line-bytes (x .line)) (h .after) l t (read-line at l x h) (h .parts) d
+sole-refusal at l (Ok x) h t d = apart at (entry-of (x .line)) l (h .after) t (h .formed) (h .parts) d
 sole-refusal at l (Err why) h t d = declined-once at l (told why) t h d
 
 -- a right answer is the only one

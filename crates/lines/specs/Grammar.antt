@@ -32,18 +32,17 @@ pub record FieldOf (k : Kind) (f : List ℕ) : Type 0 where
   pub bytes : All (Byte k) f
   pub plain : Plain k f
 
--- one space, a field, and then what R says
-pub record FieldThen (k : Kind) (R : List ℕ → Type 0) (l : List ℕ) : Type 0 where
-  pub text : List ℕ
-  pub after : List ℕ
-  pub parts : l ≡ 32 ∷ (text ++ after)
-  pub good : FieldOf k text
-  pub goes-on : R after
+-- each text is a field of its kind
+abbrev pub Forms : List Kind → List (List ℕ) → Type 0
+Forms [] [] = Unit {0}
+Forms [] (f ∷ fs) = ⊥
+Forms (k ∷ ks) [] = ⊥
+Forms (k ∷ ks) (f ∷ fs) = FieldOf k f × Forms ks fs
 
--- what follows a mark: a field of each kind, and byte 10
-abbrev pub RestOf : List Kind → List ℕ → Type 0
-RestOf [] l = l ≡ 10 ∷ []
-RestOf (k ∷ ks) l = FieldThen k (RestOf ks) l
+-- what follows a mark: one space ahead of each field, and byte 10
+abbrev pub spaced : List (List ℕ) → List ℕ
+spaced [] = 10 ∷ []
+spaced (f ∷ fs) = 32 ∷ (f ++ spaced fs)
 
 -- the first byte of each mark: bd, gt, tr, en
 abbrev pub first : Mark → ℕ
@@ -72,9 +71,9 @@ pub record Marked (m : Mark) (l after : List ℕ) : Type 0 where
 
 -- the whole lines of a mark
 pub record LineOf (m : Mark) (l : List ℕ) : Type 0 where
-  pub after : List ℕ
-  pub marked : Marked m l after
-  pub goes-on : RestOf (kinds m) after
+  pub texts : List (List ℕ)
+  pub formed : Forms (kinds m) texts
+  pub parts : l ≡ first m ∷ second m ∷ spaced texts
 
 -- some text of L begins with p
 pub record Viable (L : List ℕ → Type 0) (p : List ℕ) : Type 0 where

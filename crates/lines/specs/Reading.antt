@@ -11,8 +11,8 @@ use Rattle.lines.specs.declared.kind.Kind.{Kind}
 use Rattle.lines.specs.declared.line.Found.{Found}
 use Rattle.lines.specs.declared.line.Mark.{Mark}
 use Rattle.lines.specs.declared.part.Part.{Part}
-use Rattle.lines.specs.Grammar.{Byte, FieldOf, kinds}
-use Rattle.lines.specs.Lines.{mark-of, fields, spaced, Laid}
+use Rattle.lines.specs.Grammar.{Byte, FieldOf, Forms, spaced, kinds}
+use Rattle.lines.specs.Lines.{mark-of, entry-of, fields, Laid}
 
 -- what a pattern's character says of its step
 abbrev pub Says : ℕ → Option Bool → Type 0
@@ -46,14 +46,26 @@ pub record Took (k : Kind) (at : ℕ) (l : List ℕ) (t : Taken) : Type 0 where
   pub goes-on : t .at ≡ t .field .offset + length (t .field .bytes .now)
   pub spans : t .at + length (t .rest .now) ≡ at + length l
 
+-- what follows a mark that has fields of these kinds
+pub record RestOf (ks : List Kind) (l : List ℕ) : Type 0 where
+  pub texts : List (List ℕ)
+  pub formed : Forms ks texts
+  pub parts : l ≡ spaced texts
+
+-- the bytes of the fields
+abbrev pub shown : List Part → List (List ℕ)
+shown [] = []
+shown (f ∷ fs) = f .bytes .now ∷ shown fs
+
 -- l, whose first space is at the offset `at`, has these fields and the line's end at its front, and the next line begins at `next`
 pub record ReadsRest (at : ℕ) (l : List ℕ) (ks : List Kind) (fs : List Part) (next : ℕ) : Type 0 where
   pub after : List ℕ
-  pub parts : l ≡ spaced fs ++ after
-  pub laid : Laid at ks fs
-  pub ends : next ≡ at + length (spaced fs)
+  pub parts : l ≡ spaced (shown fs) ++ after
+  pub formed : Forms ks (shown fs)
+  pub laid : Laid at fs
+  pub ends : next ≡ at + length (spaced (shown fs))
 
 -- a line of the mark was read after its mark
 pub record ReadsAfter (m : Mark) (at : ℕ) (l : List ℕ) (r : Found) : Type 0 where
-  pub marked : mark-of (r .line) ≡ m
+  pub marked : mark-of (entry-of (r .line)) ≡ m
   pub rest : ReadsRest at l (kinds m) (fields (r .line)) (r .next)

@@ -8,3 +8,6 @@ returns-in-10 c = reads-end (c .args .at) (c .args .rest .now) (search needs) (s
 
 pub returns-in-rest : need.returns-in-rest
 returns-in-rest c = refused-end (c .args .at) (c .args .rest .now) (λ l e. search needs)
+
+pub returns-in-rest·2 : need.returns-in-rest·2
+returns-in-rest·2 c = refused-end (c .args .at) (c .args .rest .now) (λ l e. search needs)
