@@ -90,9 +90,10 @@ fields-parts (f ∷ fs) sheet before after at e here h =
     let bytes = f .bytes .now in
     let rest = spaced (shown fs) in
     let field : before ++ (32 ∷ ((bytes ++ rest) ++ after)) ≡ (before ++ (32 ∷ [])) ++ (bytes ++ (rest ++ after)) = simp append-assoc in
-    let next : before ++ (32 ∷ ((bytes ++ rest) ++ after)) ≡ (before ++ (32 ∷ bytes)) ++ (rest ++ after) = simp append-assoc in
-    (record { before = before ++ (32 ∷ []); after = rest ++ after; whole = e ∙ field; here = omega (arith, h .0, length-append before (32 ∷ [])) },
-    fields-parts fs sheet (before ++ (32 ∷ bytes)) after (at + 1 + length bytes) (e ∙ next) (omega (arith, length-append before (32 ∷ bytes))) (h .1))
+    let next : before ++ (32 ∷ ((bytes ++ rest) ++ after)) ≡ (before ++ (32 ∷ bytes)) ++ (rest ++ after) = simp append-assoc in (
+      record { before = before ++ (32 ∷ []); after = rest ++ after; whole = e ∙ field; here = omega (arith, h .0, length-append before (32 ∷ [])) },
+      fields-parts fs sheet (before ++ (32 ∷ bytes)) after (at + 1 + length bytes) (e ∙ next) (omega (arith, length-append before (32 ∷ bytes))) (h .1),
+    )
 
 -- and so is its whole text
 pub answer-parts : (sheet : List ℕ) (at : ℕ) (r : Result Read Refusal) → Answers (start sheet at) (ahead sheet at) r → made r (λ x. All (Part-of sheet) (x .text ∷ fields (x .line)))
@@ -104,6 +105,7 @@ answer-parts sheet at (Ok x) h =
     let long : start sheet at ≡ length before = sym (length-take-le (start sheet at) sheet (omega arith)) in
     let whole : sheet ≡ before ++ (line-bytes e ++ h .after) = sym (take-append-drop (start sheet at) sheet) ∙ ap (λ l. before ++ l) (h .parts) in
     let moved : before ++ (line-bytes e ++ h .after) ≡ (before ++ mark) ++ (spaced (texts e) ++ h .after) = simp append-assoc in
-    let shows : sheet ≡ (before ++ mark) ++ (spaced (shown (fields (x .line))) ++ h .after) = whole ∙ moved ∙ ap (λ fs. (before ++ mark) ++ (spaced fs ++ h .after)) (sym (shown-is (x .line))) in
-    (record { before = before; after = h .after; whole = whole ∙ ap (λ b. before ++ (b ++ h .after)) (sym (h .text)); here = h .offset ∙ long },
-    fields-parts (fields (x .line)) sheet (before ++ mark) (h .after) (start sheet at + 2) shows (omega (arith, length-append before mark)) (h .laid))
+    let shows : sheet ≡ (before ++ mark) ++ (spaced (shown (fields (x .line))) ++ h .after) = whole ∙ moved ∙ ap (λ fs. (before ++ mark) ++ (spaced fs ++ h .after)) (sym (shown-is (x .line))) in (
+      record { before = before; after = h .after; whole = whole ∙ ap (λ b. before ++ (b ++ h .after)) (sym (h .text)); here = h .offset ∙ long },
+      fields-parts (fields (x .line)) sheet (before ++ mark) (h .after) (start sheet at + 2) shows (omega (arith, length-append before mark)) (h .laid),
+    )
