@@ -1,0 +1,5 @@
+pub mod Fields
+pub mod Refusing
+pub mod Once
+pub mod Texts
+pub mod Numerals

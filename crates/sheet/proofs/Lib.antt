@@ -1,0 +1,5 @@
+pub mod Tables
+pub mod Gating
+pub mod Clocks
+pub mod Beginnings
+pub mod Once
