@@ -1,0 +1,7 @@
+//! A sheet solved from beginning to end, and what is printed of it.
+pub mod failure;
+pub mod report;
+pub mod solve_sheet;
+
+pub use failure::Failure;
+pub use report::Report;
