@@ -2,6 +2,8 @@
 pub mod failure;
 pub mod report;
 pub mod solve_sheet;
+#[cfg(test)]
+mod tests;
 
 pub use failure::Failure;
 pub use report::Report;

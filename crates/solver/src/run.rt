@@ -152,11 +152,10 @@ impl<'a> Run<'a> {
             settled,
             live,
         } = self;
-        let accepted = end_table(arena, table, live, settled);
         Counters {
             rounds,
             looks,
-            accepted,
+            accepted: end_table(arena, table, live, settled),
         }
     }
 
