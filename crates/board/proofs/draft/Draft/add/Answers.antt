@@ -2,7 +2,7 @@ use native.Mathlib.Omega.{arith}
 use mathlib.Core.Path.{_≡_, sym, ap, _∙_}
 use mathlib.Core.Bool.{false}
 use Rattle.std.specs.Results.{isOk}
-use Rattle.std.specs.Of.Vec.{vec-items, vec-len}
+use Rattle.std.specs.Of.Vec.{vec-items}
 use Rattle.board.specs.Gates.{repeats}
 use Rattle.board.proofs.Drafted.{lawful-after}
 use Rattle.board.proofs.draft.Draft.add.Needs as need
