@@ -10,7 +10,7 @@ pub add-row-requires : need.add-row-requires
 add-row-requires c κs =
     let T = c .args .period in
     let gates = c .args .gates .now in (
-      omega (arith, listed-few T gates (c .pre .0) (c .args .spot * T + c .loop-step .step) (vec-items (c .loop-step .self .exits)) (vec-items (c .loop-step .self .starts)) (c .loop-step .inv), c .pre .2, add-mul (c .args .spot) 1 T, one-mul T),
+      omega (arith, listed-few T gates (c .pre .0) (c .args .spot * T + c .loop-step .step) (vec-items (c .loop-step .self .exits)) (vec-items (c .loop-step .self .starts)) (c .loop-step .inv), c .pre .1, add-mul (c .args .spot) 1 T, one-mul T),
       omega (arith, near-few (c .args .spot) gates (c .as-slice .result .now) (c .as-slice .ensures .value ∙ c .in-Continue-near .ensures tt), c .pre .0),
     )
 
