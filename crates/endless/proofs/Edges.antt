@@ -1,5 +1,5 @@
 -- The exits of a spot are itself and the spots that an edge joins it to.
-use Prim.Native.Nat.{ℕ, zero, suc, _+_, _<_, _≤_}
+use Prim.Native.Nat.{ℕ, zero, suc, _+_, _<_}
 use mathlib.Core.Path.{_≡_, refl, sym, ap, subst, _∙_}
 use mathlib.Core.List.{List, [], _∷_, _++_, map}
 use mathlib.Core.Bool.{Bool, true, false, cond}
@@ -13,16 +13,16 @@ use Rattle.board.specs.Gates.{is-open}
 use Rattle.gated.specs.Exits.{across, far, fars, exits-at}
 use Rattle.endless.specs.Published.{In, Between, Edge, Goes}
 
-pub in-left : {X : Type 0} (x : X) (ys zs : List X) → In x ys → In x (ys ++ zs)
+in-left : {X : Type 0} (x : X) (ys zs : List X) → In x ys → In x (ys ++ zs)
 in-left x [] zs h = absurd h
 in-left x (y ∷ ys) zs (inl e) = inl e
 in-left x (y ∷ ys) zs (inr h) = inr (in-left x ys zs h)
 
-pub in-right : {X : Type 0} (x : X) (ys zs : List X) → In x zs → In x (ys ++ zs)
+in-right : {X : Type 0} (x : X) (ys zs : List X) → In x zs → In x (ys ++ zs)
 in-right x [] zs h = h
 in-right x (y ∷ ys) zs h = inr (in-right x ys zs h)
 
-pub in-cases : {X : Type 0} (x : X) (ys zs : List X) → In x (ys ++ zs) → In x ys ⊎ In x zs
+in-cases : {X : Type 0} (x : X) (ys zs : List X) → In x (ys ++ zs) → In x ys ⊎ In x zs
 in-cases x [] zs h = inr h
 in-cases x (y ∷ ys) zs (inl e) = inl (inl e)
 in-cases x (y ∷ ys) zs (inr h) = elim (in-cases x ys zs h) [ inl i ↦ inl (inr i) | inr i ↦ inr i ]

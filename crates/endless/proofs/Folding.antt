@@ -1,8 +1,8 @@
 -- The endless game folds onto the board's.
-use Prim.Native.Nat.{ℕ, zero, suc, _+_, _*_, _/_, _%_, _^_, _<_}
+use Prim.Native.Nat.{ℕ, zero, suc, _+_, _*_, _/_, _%_, _<_}
 use mathlib.Core.Path.{_≡_, refl, sym, ap, _∙_}
 use mathlib.Core.List.{List, [], _∷_, _++_, map}
-use mathlib.Core.Bool.{Bool, true, cond}
+use mathlib.Core.Bool.{true, cond}
 use mathlib.Core.Logic.{inl, inr}
 use native.Mathlib.Omega.{arith}
 use native.Mathlib.Nat.{mod-mod-of-dvd, dvd-of-mod-eq-zero, mod-add-mod, zero-mod, mul-assoc, add-mul}
@@ -23,7 +23,6 @@ use Rattle.gated.specs.Exits.{across, far, fars, exits-at}
 use Rattle.gated.specs.Games.{game-of}
 use Rattle.gated.specs.Places.{number, next, step-of, turn-of, pursuer-of, runner-of, player, mover, moved, moves-by}
 use Rattle.gated.proofs.Numbers.{runner-back, pursuer-back, turn-back, step-back, number-below, number-of-parts, turn-in, mover-in}
-use Rattle.gated.proofs.Sounds.{places-pos}
 use Rattle.endless.specs.Published.{In}
 use Rattle.endless.specs.Endless.{endless-rules, reached, fold}
 use Rattle.endless.specs.Laws.{Folded}

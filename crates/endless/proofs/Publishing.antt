@@ -1,11 +1,10 @@
 -- The moves of the rules of a board, with any clock, are the published ones.
-use Prim.Native.Nat.{ℕ, zero, suc, _+_, _<_}
+use Prim.Native.Nat.{ℕ, zero, suc, _<_}
 use mathlib.Core.Path.{_≡_, refl, sym, ap, subst, _∙_}
 use mathlib.Core.List.{List, map}
 use mathlib.Core.Bool.{true}
 use mathlib.Core.Logic.{_⊎_, inl, inr, _↔_}
 use native.Mathlib.Omega.{arith}
-use lib.ListN.{length, getD}
 use Rattle.std.proofs.shelf.Bits.{mod-below}
 use Rattle.arena.specs.Game.{Rules, Step}
 use Rattle.arena.specs.declared.player.Player.the-variants.{Runner, Pursuer}

@@ -2,13 +2,14 @@
 use Prim.Native.Nat.{ℕ, zero, suc, _+_, _*_, _/_, _%_, _<_, _≤_}
 use mathlib.Core.Path.{_≡_, refl, sym, ap, _∙_}
 use mathlib.Core.List.{List, [], _∷_, _++_}
-use mathlib.Core.Bool.{Bool, true, false, cond}
+use mathlib.Core.Bool.{true, false, cond, not}
 use native.Mathlib.Omega.{arith}
 use native.Mathlib.Nat.{mul-comm, mul-assoc}
 use lib.ListN.{length, getD, take, length-append}
 use Rattle.std.specs.shelf.Lists.{kept-by}
 use Rattle.std.proofs.shelf.Lists.{append-nil, append-assoc, take-more, take-all}
 use Rattle.std.proofs.shelf.Elements.{kept-by-more}
+use Rattle.std.proofs.shelf.Filters.{length-kept-by-both}
 use Rattle.std.proofs.shelf.Counted.{map-counting-more}
 use Rattle.board.specs.declared.gate.Gate.{Gate}
 use Rattle.board.specs.Gates.{places}
@@ -32,10 +33,10 @@ fars-more t spot gates i g h r =
 
 -- one gate more
 pub grown : (t spot : ℕ) (gates : List Gate) (i : ℕ) (g : Gate) → i < length gates → g ≡ getD gates i g
-    → (base had more : List ℕ) → had ≡ base ++ fars t spot (take i gates) → more ≡ far t spot g
-    → had ++ more ≡ base ++ fars t spot (take (i + 1) gates)
-grown t spot gates i g h r base had more e m =
-    ap (λ x. x ++ more) e ∙ append-assoc base (fars t spot (take i gates)) more
+    → (base had more after : List ℕ) → had ≡ base ++ fars t spot (take i gates) → more ≡ far t spot g → after ≡ had ++ more
+    → after ≡ base ++ fars t spot (take (i + 1) gates)
+grown t spot gates i g h r base had more after e m a =
+    a ∙ ap (λ x. x ++ more) e ∙ append-assoc base (fars t spot (take i gates)) more
     ∙ ap (λ x. base ++ (fars t spot (take i gates) ++ x)) m
     ∙ ap (λ x. base ++ x) (sym (fars-more t spot gates i g h r))
 
@@ -45,10 +46,20 @@ pub whole : (t spot : ℕ) (gates : List Gate) (i : ℕ) → length gates ≤ i 
 whole t spot gates i h had base first f e =
     e ∙ ap (λ x. first ++ fars t spot x) (take-all i gates h) ∙ ap (λ x. x ++ fars t spot gates) f ∙ append-assoc had (spot ∷ []) (fars t spot gates)
 
-pub rows-few : (T : ℕ) (gates : List Gate) → length gates ≤ 256 → (k : ℕ) → length (rows T gates k) ≤ k * 257
+rows-few : (T : ℕ) (gates : List Gate) → length gates ≤ 256 → (k : ℕ) → length (rows T gates k) ≤ k * 257
 rows-few T gates h zero = omega arith
 rows-few T gates h (suc k) =
     omega (arith, length-append (rows T gates k) (row T gates k), rows-few T gates h k, exits-few (k % T) (k / T) gates)
+
+-- how much there is to count
+pub listed-few : (T : ℕ) (gates : List Gate) → length gates ≤ 256 → (k : ℕ) (exits starts : List ℕ) → Listed T gates k exits starts → length exits ≤ k * 257
+listed-few T gates h k exits starts l = omega (arith, ap length (l .0), rows-few T gates h k)
+
+pub near-few : (spot : ℕ) (gates near : List Gate) → near ≡ kept-by (touches spot) gates → length near ≤ length gates
+near-few spot gates near e = omega (arith, ap length e, length-kept-by-both (touches spot) (λ g. not (touches spot g)) (λ _. refl) gates)
+
+pub row-few : (t spot : ℕ) (near : List Gate) (had exits : List ℕ) → exits ≡ had ++ exits-at near t spot → length exits ≤ length had + (length near + 1)
+row-few t spot near had exits e = omega (arith, ap length e, length-append had (exits-at near t spot), exits-few t spot near)
 
 -- one gate more is tested
 module _ (spot : ℕ) (gates : List Gate) (i : ℕ) (g : Gate) (h : i < length gates) (r : g ≡ getD gates i g) (had near : List Gate) (inv : had ≡ kept-by (touches spot) (take i gates)) where

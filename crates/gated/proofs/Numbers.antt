@@ -1,9 +1,9 @@
 -- A number and its parts are inverse, and the parts of a place of the board are within their bounds.
-use Prim.Native.Nat.{ℕ, zero, suc, _+_, _*_, _/_, _%_, _<_, _≤_}
-use mathlib.Core.Path.{_≡_, refl, sym, ap, _∙_}
+use Prim.Native.Nat.{ℕ, _+_, _*_, _/_, _%_, _<_, _≤_}
+use mathlib.Core.Path.{_≡_, ap, _∙_}
 use native.Mathlib.Omega.{arith}
-use native.Mathlib.Nat.{mul-comm, mul-assoc}
-use Rattle.std.proofs.shelf.Bits.{div-mul-add, mod-mul-add, div-below, mod-below, div-add-mod', mul-add-lt, mul-le}
+use native.Mathlib.Nat.{mul-comm}
+use Rattle.std.proofs.shelf.Bits.{div-mul-add, mod-mul-add, div-below, mod-below, div-add-mod', mul-add-lt}
 use Rattle.arena.specs.declared.player.Player.{Player}
 use Rattle.arena.specs.declared.player.Player.the-variants.{Runner, Pursuer}
 use Rattle.board.specs.Gates.{places}

@@ -1,26 +1,26 @@
 -- The game of a board is sound, and numbers and parts are inverse.
-use Prim.Native.Nat.{ℕ, _+_, _*_, _<_, _≤_}
-use mathlib.Core.Path.{_≡_, refl, sym, ap, subst, _∙_}
+use Prim.Native.Nat.{ℕ, _*_, _<_, _≤_}
+use mathlib.Core.Path.{_≡_, sym, subst}
 use mathlib.Core.List.{List, map}
 use mathlib.Core.Bool.{true}
 use native.Mathlib.Omega.{arith}
 use lib.ListN.{length, getD, length-map}
 use Rattle.std.proofs.shelf.Bits.{mod-below, mul-le}
 use Rattle.std.proofs.shelf.Lists.{getD-map}
-use Rattle.arena.specs.Sound.{Sized, Sound-at, Places-sound, Sound}
+use Rattle.arena.specs.Sound.{Sound-at, Sound}
 use Rattle.board.specs.declared.gate.Gate.{Gate}
 use Rattle.board.specs.declared.board.Board.{Board}
 use Rattle.board.specs.Boards.{spots-of, period-of, gates-of}
 use Rattle.board.specs.Gates.{places, all-join}
 use Rattle.gated.specs.Exits.{exits-at}
 use Rattle.gated.specs.Games.{game-of}
-use Rattle.gated.specs.Laws.{Within, Inverse}
+use Rattle.gated.specs.Laws.{Inverse}
 use Rattle.gated.specs.Places.{board-game, next, mover, moved, player, step-of, turn-of, pursuer-of, runner-of}
 use Rattle.gated.proofs.Exits.{exits-in, exits-few}
 use Rattle.gated.proofs.Numbers.{step-in, turn-in, mover-in, moved-below, number-below, number-of-parts, step-back, turn-back, pursuer-back, runner-back}
 
 -- there is a place
-pub places-pos : (n T : ℕ) → 0 < n → 0 < T → 0 < places n T
+places-pos : (n T : ℕ) → 0 < n → 0 < T → 0 < places n T
 places-pos n T some runs =
     let one = mul-le 1 1 (T * 2) n (omega arith) some in
     omega (arith, mul-le 1 1 (T * 2 * n) n (omega arith) some)

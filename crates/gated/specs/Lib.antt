@@ -6,3 +6,4 @@ pub mod Games
 pub mod Traps
 pub mod TrapRefused
 pub mod Laws
+pub mod Boarded

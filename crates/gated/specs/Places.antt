@@ -1,6 +1,6 @@
 -- The places of a board of n spots, by their numbers, and the game on them.
 use Prim.Native.Nat.{ℕ, _+_, _*_, _/_, _%_}
-use mathlib.Core.Bool.{Bool, cond}
+use mathlib.Core.Bool.{cond}
 use mathlib.Core.List.{List, map}
 use lib.Dec.{eqb}
 use Rattle.arena.specs.Game.{Rules, Game}

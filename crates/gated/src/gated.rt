@@ -1,4 +1,4 @@
-ghost use Prim.Native.Nat.{ℕ, _*_};
+ghost use Prim.Native.Nat.{_*_};
 ghost use Rattle.board.specs.Boards.{gates-of, period-of, spots-of};
 ghost use Rattle.gated.specs.Index.{Listed};
 ghost use Rattle.std.specs.Of.Vec.{vec-items};

@@ -1,4 +1,4 @@
-ghost use Prim.Native.Nat.{ℕ, _+_, _*_, _<_, _≤_};
+ghost use Prim.Native.Nat.{_+_, _*_, _<_, _≤_};
 ghost use Rattle.board.specs.Boards.{gates-of, period-of, spots-of};
 ghost use Rattle.gated.specs.Exits.{exits-at, far, touches};
 ghost use Rattle.gated.specs.Index.{Listed};
@@ -33,7 +33,7 @@ fn gates_at(heap: Global, gates: &[Gate], spot: u8) -> Result<Vec<Gate>, AllocEr
     Ok(near)
 }
 
-// The far end of a gate, if it is open.
+// The far end of a gate from a spot, if it is open and the spot is one of its ends.
 fn far_end(gate: &Gate, step: u32, spot: u8) -> Option<u8>
     ensures { λ r. ⌜ listOf r ≡ far step spot (now (gate .entry)) ⌝ }
 {
@@ -71,7 +71,7 @@ pub(crate) struct Index {
 impl Index {
     // One row more: the exits of a spot at a step, by the gates at that spot.
     fn add_row(&mut self, near: &[Gate], step: u32, spot: u8) -> Result<(), AllocError>
-        requires { ⌜ length (vec-items (now self .exits)) ≤ 134744064 ⌝ }
+        requires { ⌜ length (vec-items (now self .exits)) ≤ 524288 * 257 ⌝ }
         requires { ⌜ length (now near) ≤ 256 ⌝ }
         ensures { λ r. ⌜ made r (λ _. (vec-items (now (self .exit) .exits) ≡ vec-items (now (self .entry) .exits) ++ exits-at (now (near .entry)) step spot) × (vec-items (now (self .exit) .starts) ≡ vec-items (now (self .entry) .starts) ++ (length (vec-items (now (self .exit) .exits)) ∷ []))) ⌝ }
     {
@@ -89,7 +89,6 @@ impl Index {
         period: u32,
     ) -> Result<(), AllocError>
         requires { ⌜ length (now gates) ≤ 256 ⌝ }
-        requires { ⌜ 0 < period ⌝ }
         requires { ⌜ (spot + 1) * period ≤ 524288 ⌝ }
         requires { ⌜ Listed period (now gates) (spot * period) (vec-items (now self .exits)) (vec-items (now self .starts)) ⌝ }
         ensures { λ r. ⌜ made r (λ _. Listed period (now (gates .entry)) ((spot + 1) * period) (vec-items (now (self .exit) .exits)) (vec-items (now (self .exit) .starts))) ⌝ }

@@ -4,6 +4,8 @@ mod index;
 pub mod laws;
 pub mod parts;
 pub mod refusal;
+#[cfg(test)]
+mod tests;
 
 pub use gated::Gated;
 pub use parts::Parts;

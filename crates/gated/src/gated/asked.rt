@@ -1,10 +1,11 @@
+ghost use Rattle.gated.specs.Boarded.{board-of};
 ghost use Rattle.gated.specs.Games.{game-of};
 use crate::gated::Gated;
 use arena::interface::Arena;
 use arena::player::Player;
 
 pub impl Arena for Gated as GatedArena {
-    ghost game = { λ a. game-of (a .board) };
+    ghost game = { λ a. game-of (board-of a) };
 
     fn size(&self) -> usize {
         self.board.places() as usize

@@ -1,6 +1,7 @@
-ghost use Prim.Native.Nat.{ℕ, _<_, _≤_};
+ghost use Prim.Native.Nat.{_<_, _≤_};
 ghost use Rattle.board.specs.Boards.{period-of, spots-of};
 ghost use Rattle.board.specs.Gates.{places};
+ghost use Rattle.gated.specs.Boarded.{board-of};
 ghost use Rattle.gated.specs.Parted.{Parted};
 ghost use Rattle.gated.specs.Places.{moved, next, number};
 ghost use Rattle.std.specs.Options.{Cases as BySome};
@@ -24,7 +25,7 @@ fn number(spots: usize, step: usize, turn: usize, pursuer: usize, runner: usize)
 impl Gated {
     // The parts of a place's number; none off the board.
     pub fn parts(&self, place: usize) -> Option<Parts>
-        ensures { λ r. ⌜ BySome r (places (spots-of (now (self .entry) .board)) (period-of (now (self .entry) .board)) ≤ place) (Parted (spots-of (now (self .entry) .board)) (period-of (now (self .entry) .board)) place) ⌝ }
+        ensures { λ r. ⌜ BySome r (places (spots-of (board-of (now (self .entry)))) (period-of (board-of (now (self .entry)))) ≤ place) (Parted (spots-of (board-of (now (self .entry)))) (period-of (board-of (now (self .entry)))) place) ⌝ }
     {
         if place >= self.board.places() as usize {
             return None;
@@ -45,11 +46,11 @@ impl Gated {
 
     // The place after the player to move has gone to a spot.
     pub(crate) fn moved(&self, at: &Parts, to: usize) -> usize
-        requires { ⌜ now at .step < period-of (now self .board) ⌝ }
-        requires { ⌜ now at .pursuer < spots-of (now self .board) ⌝ }
-        requires { ⌜ now at .runner < spots-of (now self .board) ⌝ }
-        requires { ⌜ to < spots-of (now self .board) ⌝ }
-        ensures { λ r. ⌜ r ≡ moved (spots-of (now (self .entry) .board)) (next (period-of (now (self .entry) .board))) (now (at .entry) .turn) (now (at .entry) .step) (now (at .entry) .pursuer) (now (at .entry) .runner) to ⌝ }
+        requires { ⌜ now at .step < period-of (board-of (now self)) ⌝ }
+        requires { ⌜ now at .pursuer < spots-of (board-of (now self)) ⌝ }
+        requires { ⌜ now at .runner < spots-of (board-of (now self)) ⌝ }
+        requires { ⌜ to < spots-of (board-of (now self)) ⌝ }
+        ensures { λ r. ⌜ r ≡ moved (spots-of (board-of (now (self .entry)))) (next (period-of (board-of (now (self .entry))))) (now (at .entry) .turn) (now (at .entry) .step) (now (at .entry) .pursuer) (now (at .entry) .runner) to ⌝ }
     {
         let n = self.board.spots() as usize;
         match at.turn {

@@ -1,5 +1,5 @@
-ghost use Prim.Native.Nat.{ℕ};
 ghost use Rattle.board.specs.Boards.{period-of, spots-of};
+ghost use Rattle.gated.specs.Boarded.{board-of};
 ghost use Rattle.gated.specs.TrapRefused.{Cause};
 ghost use Rattle.gated.specs.Traps.{all-below, is-trap, spot-byte, trap-bytes};
 ghost use Rattle.std.specs.Iters.{counting};
@@ -52,7 +52,7 @@ fn spot_bytes(heap: Global, traps: &[u8], spots: u8) -> Result<Vec<u8>, AllocErr
 impl Gated {
     // A byte for each place: 1 where the runner stands on a trap.
     fn place_bytes(&self, heap: Global, traps: &[u8]) -> Result<Vec<u8>, AllocError>
-        ensures { λ r. ⌜ made r (λ v. vec-items v ≡ trap-bytes (spots-of (now (self .entry) .board)) (period-of (now (self .entry) .board)) (now (traps .entry))) ⌝ }
+        ensures { λ r. ⌜ made r (λ v. vec-items v ≡ trap-bytes (spots-of (board-of (now (self .entry)))) (period-of (board-of (now (self .entry)))) (now (traps .entry))) ⌝ }
     {
         let row = spot_bytes(heap, traps, self.board.spots())?;
         let n = self.board.spots() as u32;
@@ -65,7 +65,7 @@ impl Gated {
 
     // The trap bytes of traps on spots, or why there are none.
     pub fn trap_bytes(&self, heap: Global, traps: &[u8]) -> Result<Vec<u8>, TrapRefusal>
-        ensures { λ r. ⌜ Cases r (λ v. (all-below (spots-of (now (self .entry) .board)) (now (traps .entry)) ≡ true) × (vec-items v ≡ trap-bytes (spots-of (now (self .entry) .board)) (period-of (now (self .entry) .board)) (now (traps .entry)))) (Cause (spots-of (now (self .entry) .board)) (now (traps .entry))) ⌝ }
+        ensures { λ r. ⌜ Cases r (λ v. (all-below (spots-of (board-of (now (self .entry)))) (now (traps .entry)) ≡ true) × (vec-items v ≡ trap-bytes (spots-of (board-of (now (self .entry)))) (period-of (board-of (now (self .entry)))) (now (traps .entry)))) (Cause (spots-of (board-of (now (self .entry)))) (now (traps .entry))) ⌝ }
     {
         if !are_below(traps, self.board.spots()) {
             return Err(TrapRefusal::OffBoard);

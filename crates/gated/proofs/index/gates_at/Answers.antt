@@ -1,5 +1,5 @@
 use native.Mathlib.Omega.{arith}
-use mathlib.Core.Path.{_≡_, sym, ap, _∙_}
+use mathlib.Core.Path.{sym, ap, _∙_}
 use Rattle.std.specs.Of.Vec.{vec-items}
 use Rattle.std.specs.shelf.Lists.{kept-by}
 use Rattle.std.proofs.shelf.Lists.{take-all}

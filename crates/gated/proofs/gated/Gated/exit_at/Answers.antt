@@ -1,6 +1,6 @@
 use native.Mathlib.Omega.{arith}
 use Prim.Native.Nat.{_+_, _*_}
-use mathlib.Core.Path.{_≡_, ap}
+use mathlib.Core.Path.{ap}
 use Rattle.std.specs.Of.Vec.{vec-items}
 use Rattle.gated.proofs.Rows.{start-in, exit-read-in, exit-read}
 use Rattle.gated.proofs.gated.Gated.exit_at.Needs as need

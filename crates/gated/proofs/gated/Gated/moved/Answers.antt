@@ -1,6 +1,5 @@
 use native.Mathlib.Omega.{arith}
-use Prim.Native.Nat.{_+_, _%_, _≤_, _<_}
-use mathlib.Core.Path.{ap}
+use Prim.Native.Nat.{_+_}
 use Rattle.std.proofs.shelf.Bits.{mod-below}
 use Rattle.gated.proofs.Numbers.{period-small}
 use Rattle.gated.proofs.gated.Gated.moved.Needs as need

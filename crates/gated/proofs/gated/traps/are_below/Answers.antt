@@ -1,4 +1,3 @@
-use native.Mathlib.Omega.{arith}
 use Rattle.gated.proofs.Trapping.{off-found, below-on, off-none}
 use Rattle.gated.proofs.gated.traps.are_below.Needs as need
 

@@ -1,4 +1,3 @@
-use native.Mathlib.Omega.{arith}
 use Rattle.gated.proofs.Trapping.{trap-found, trap-on, trap-none}
 use Rattle.gated.proofs.gated.traps.has_trap.Needs as need
 

@@ -1,22 +1,17 @@
 use native.Mathlib.Omega.{arith}
-use Prim.Native.Nat.{_+_, _*_}
-use mathlib.Core.Path.{_≡_, refl, ap, _∙_}
-use mathlib.Core.Bool.{not}
 use native.Mathlib.Nat.{add-mul, one-mul}
-use lib.ListN.{length}
+use Prim.Native.Nat.{_+_, _*_}
+use mathlib.Core.Path.{_∙_}
 use Rattle.std.specs.Of.Vec.{vec-items}
-use Rattle.std.proofs.shelf.Filters.{length-kept-by-both}
-use Rattle.gated.specs.Exits.{touches}
-use Rattle.gated.proofs.Built.{rows-few, listed-more}
+use Rattle.gated.proofs.Built.{listed-few, near-few, listed-more}
 use Rattle.gated.proofs.index.Index.add_spot.Needs as need
 
 pub add-row-requires : need.add-row-requires
 add-row-requires c κs =
     let T = c .args .period in
-    let gates = c .args .gates .now in
-    let k = c .args .spot * T + c .loop-step .step in (
-      omega (arith, ap length (c .loop-step .inv .0), rows-few T gates (c .pre .0) k, c .pre .2, add-mul (c .args .spot) 1 T, one-mul T),
-      omega (arith, ap length (c .as-slice .ensures .value ∙ c .in-Continue-near .ensures tt), length-kept-by-both (touches (c .args .spot)) (λ g. not (touches (c .args .spot) g)) (λ _. refl) gates, c .pre .0),
+    let gates = c .args .gates .now in (
+      omega (arith, listed-few T gates (c .pre .0) (c .args .spot * T + c .loop-step .step) (vec-items (c .loop-step .self .exits)) (vec-items (c .loop-step .self .starts)) (c .loop-step .inv), c .pre .1, add-mul (c .args .spot) 1 T, one-mul T),
+      omega (arith, near-few (c .args .spot) gates (c .as-slice .result .now) (c .as-slice .ensures .value ∙ c .in-Continue-near .ensures tt), c .pre .0),
     )
 
 pub loop-step-again : need.loop-step-again

@@ -1,8 +1,5 @@
 use native.Mathlib.Omega.{arith}
-use Prim.Native.Nat.{_<_}
-use lib.ListN.{length}
 use Rattle.board.specs.Boards.{spots-of, period-of, gates-of}
-use Rattle.gated.specs.Exits.{exits-at}
 use Rattle.gated.proofs.Asked.{none-past, target-is, step-below, pursuer-below, runner-below, mover-below}
 use Rattle.gated.proofs.Exits.{exits-in}
 use Rattle.gated.proofs.gated.asked.GatedArena.move_at.Needs as need
