@@ -13,6 +13,7 @@ use Rattle.lines.proofs.Once.{line-once, apart, declined-once}
 use Rattle.lines.specs.declared.refusal.Told.{Told}
 use Rattle.lines.specs.Lines.{Entry, end, Formed, line-bytes}
 use Rattle.sheet.proofs.Tables.{first-once, first-clean, any-more}
+use Rattle.sheet.proofs.Traps.{writes-traps}
 use Rattle.sheet.specs.declared.refusal.Refusal.{Refusal}
 use Rattle.sheet.specs.declared.sheet.Sheet.{Sheet}
 use Rattle.sheet.specs.Readings.{Explains, Gives, Tells, Right, Reads}
@@ -101,5 +102,5 @@ told-or-none text t (Some u) h b = inl (ap (λ x. Some x) (broken-once text u t 
 
 -- a right answer is the only one
 pub exactly : (text : List ℕ) (a : Result Sheet Refusal) → Right text a → Reads text a
-exactly text (Ok x) h = record { right = h; sheet = λ s w. writes-once text (kept x) s h w; refusal = λ t b. writes-apart text (kept x) t h b }
-exactly text (Err why) h = record { right = h; sheet = λ s w. given-or-none text s (told why) h w; refusal = λ t b. told-or-none text t (told why) h b }
+exactly text (Ok x) h = record { right = h; traps = writes-traps text (kept x) h; sheet = λ s w. writes-once text (kept x) s h w; refusal = λ t b. writes-apart text (kept x) t h b }
+exactly text (Err why) h = record { right = h; traps = tt; sheet = λ s w. given-or-none text s (told why) h w; refusal = λ t b. told-or-none text t (told why) h b }

@@ -8,13 +8,14 @@ use Rattle.std.specs.declared.option.Option.the-variants.{None, Some}
 use Rattle.std.specs.declared.result.Result.{Result}
 use Rattle.std.specs.declared.result.Result.the-variants.{Ok, Err}
 use Rattle.std.specs.Results.{Cases}
+use Rattle.std.specs.Vec.{made}
 use Rattle.lines.specs.declared.refusal.Told.{Told}
 use Rattle.lines.specs.Lines.{Entry, board, gate, trap, end, Formed, line-bytes}
 use Rattle.sheet.specs.declared.refusal.Refusal.{Refusal}
 use Rattle.sheet.specs.declared.sheet.Sheet.{Sheet}
 use Rattle.sheet.specs.Refusals.{told}
 use Rattle.sheet.specs.Says.{Held, after, written, kept}
-use Rattle.sheet.specs.Rules.{Clean, breaches, Lawful, Writes, Broken-at}
+use Rattle.sheet.specs.Rules.{Clean, breaches, Lawful, Writes, Broken-at, Lawful-traps}
 
 -- the line asks for memory
 abbrev pub Grows : Entry → Type 0
@@ -53,8 +54,9 @@ Tells t (Err why) = (told why ≡ Some t) ⊎ (told why ≡ None)
 abbrev pub Right : List ℕ → Result Sheet Refusal → Type 0
 Right text a = Cases a (λ x. Writes text (kept x)) (λ why. Explains text (told why))
 
--- the answer is right, and what is right is the answer: a text that is a sheet is read as what it says, and one that is broken is refused for that
+-- the answer is right, its traps are lawful, and what is right is the answer: a text that is a sheet is read as what it says, and one that is broken is refused for that
 pub record Reads (text : List ℕ) (a : Result Sheet Refusal) : Type 0 where
   pub right : Right text a
+  pub traps : made a (λ x. Lawful-traps (kept x .spots) (kept x .traps))
   pub sheet : (s : Held) → Writes text s → Gives s a
   pub refusal : (t : Told) → Broken-at text t → Tells t a

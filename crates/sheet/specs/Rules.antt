@@ -3,7 +3,7 @@ use mathlib.Core.List.{List, [], _∷_, _++_}
 use mathlib.Core.Logic.{_⊎_}
 use mathlib.Core.Path.{_≡_}
 use Prim.Native.Nat.{ℕ, _+_, _≤_, _<_}
-use lib.ListN.{length}
+use lib.ListN.{length, getD}
 use Rattle.std.specs.declared.option.Option.{Option}
 use Rattle.std.specs.declared.option.Option.the-variants.{None, Some}
 use Rattle.std.specs.shelf.Lists.{All, Has}
@@ -110,3 +110,8 @@ pub record Broken-at (text : List ℕ) (t : Told) : Type 0 where
   pub lawful : Lawful None lines
   pub whole : text ≡ written lines ++ rest
   pub fault : Fault (after None lines) (length (written lines)) rest t
+
+-- a board of n spots may have these traps: each is on a spot, and no two on one
+pub record Lawful-traps (n : ℕ) (ts : List ℕ) : Type 0 where
+  pub spots : All (λ v. v < n) ts
+  pub once : (i j : ℕ) → i < j → j < length ts → getD ts i 0 ≡ getD ts j 0 → ⊥

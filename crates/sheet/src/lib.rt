@@ -3,3 +3,5 @@ pub mod read;
 mod reading;
 pub mod refusal;
 pub mod sheet;
+#[cfg(test)]
+mod tests;

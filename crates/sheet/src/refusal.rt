@@ -3,10 +3,13 @@ ghost use Rattle.std.specs.declared.option.Option.the-variants.{Some};
 ghost use Rattle.sheet.specs.Refusals.{board-rule, told};
 use lines::refusal::Layer;
 use lines::refusal::Refusal as LineRefusal;
+use lines::refusal::RefusalDebug as LineRefusalDebug;
+use lines::refusal::RefusalEq as LineRefusalEq;
+use lines::refusal::RefusalPartialEq as LineRefusalPartialEq;
 use lines::refusal::Told;
 
 // Why a sheet is not read.
-#[derive(Clone, Copy)]
+#[derive(Clone, Copy, PartialEq, Eq, Debug)]
 pub enum Refusal {
     // No line is there.
     Line(LineRefusal),
