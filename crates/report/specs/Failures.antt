@@ -6,7 +6,7 @@ use Rattle.std.specs.Options.{mapped}
 use Rattle.lines.specs.declared.refusal.Told.{Told}
 use Rattle.sheet.specs.Refusals.{told}
 use Rattle.report.specs.declared.failure.Failure.{Failure}
-use Rattle.report.specs.declared.failure.Failure.the-variants.{TooLarge, Sheet, Board, NoMemory}
+use Rattle.report.specs.declared.failure.Failure.the-variants.{TooLarge, Refused, NoMemory}
 use Rattle.report.specs.declared.failure.Printed.{Printed}
 
 -- a refusal's number and byte offset
@@ -16,6 +16,5 @@ numbers t = record { number = t .number; offset = t .offset }
 -- the number and the byte offset of each failure that is a refusal of the sheet
 abbrev pub printed : Failure → Option Printed
 printed TooLarge = Some (record { number = 22; offset = 0 })
-printed (Sheet why) = mapped numbers (told why)
-printed (Board why) = None
+printed (Refused why) = mapped numbers (told why)
 printed NoMemory = None

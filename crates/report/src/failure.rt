@@ -1,6 +1,5 @@
 ghost use Rattle.report.specs.Failures.{printed};
 ghost use mathlib.Core.Path.{_≡_};
-use pursuit::BoardRefusal;
 use sheet::refusal::Refusal;
 use std::fmt;
 
@@ -24,9 +23,7 @@ pub enum Failure {
     // The sheet or its board is larger than the program takes.
     TooLarge,
     // The sheet is refused.
-    Sheet(Refusal),
-    // The board is not solved.
-    Board(BoardRefusal),
+    Refused(Refusal),
     // There is no memory.
     NoMemory,
 }
@@ -41,14 +38,13 @@ impl Failure {
                 number: 22,
                 offset: 0,
             }),
-            Failure::Sheet(why) => match why.told() {
+            Failure::Refused(why) => match why.told() {
                 Some(told) => Some(Printed {
                     number: told.number,
                     offset: told.offset,
                 }),
                 None => None,
             },
-            Failure::Board(_) => None,
             Failure::NoMemory => None,
         }
     }

@@ -1,0 +1,2 @@
+pub mod Wanting
+pub mod Telling
