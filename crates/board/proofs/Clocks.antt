@@ -2,8 +2,8 @@
 use Prim.Native.Nat.{ℕ, zero, suc, _+_, _-_, _*_, _/_, _%_, _<_, _≤_}
 use mathlib.Core.Path.{_≡_, refl, sym, ap, subst, _∙_}
 use mathlib.Core.List.{List, [], _∷_, _++_}
-use mathlib.Core.Logic.{_⊎_, inl, inr}
-use mathlib.Core.Bool.{Bool, true, false, _&&_}
+use mathlib.Core.Logic.{inl, inr}
+use mathlib.Core.Bool.{Bool, true, _&&_}
 use native.Mathlib.Omega.{arith}
 use native.Mathlib.Nat.{mul-comm, mod-lt, mul-mod-right, mul-mod-left, mod-mod-of-dvd, dvd-of-mod-eq-zero, mod-eq-zero-of-dvd, dvd-mul-right, dvd-trans, le-of-dvd, dvd-antisymm, eq-zero-or-pos, lt-of-mul-lt-mul-left, mul-zero, eq-or-lt-of-le}
 use lib.Dec.{eqb}

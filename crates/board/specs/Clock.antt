@@ -1,5 +1,5 @@
 -- The clock of a board: the least common multiple of its patterns' lengths.
-use Prim.Native.Nat.{ℕ, _%_, _*_, _<_, _≤_}
+use Prim.Native.Nat.{ℕ, _%_, _<_}
 use mathlib.Core.Bool.{Bool, true, _&&_}
 use mathlib.Core.List.{List, [], _∷_}
 use mathlib.Core.Path.{_≡_}

@@ -1,4 +1,4 @@
-ghost use Prim.Native.Nat.{ℕ, _≤_};
+ghost use Prim.Native.Nat.{_≤_};
 ghost use Rattle.board.specs.Clock.{Period};
 ghost use Rattle.board.specs.Gates.{Lawful-gates, Lawful-spots, places};
 ghost use Rattle.board.specs.SizeRefused.{Cause};

@@ -1,6 +1,5 @@
-ghost use Prim.Native.Nat.{ℕ, _<_, _≤_};
+ghost use Prim.Native.Nat.{_<_, _≤_};
 ghost use Rattle.board.specs.Clock.{Least-common, Period};
-ghost use mathlib.Core.Path.{_≡_};
 use crate::gate::Gate;
 
 // The least common multiple of two numbers.

@@ -1,4 +1,3 @@
-ghost use Prim.Native.Nat.{ℕ};
 ghost use Rattle.board.specs.Gates.{Lawful-gates, Lawful-spots};
 ghost use Rattle.board.specs.SpotsRefused.{Cause};
 ghost use Rattle.std.specs.Of.Vec.{vec-items};

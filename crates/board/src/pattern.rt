@@ -1,4 +1,3 @@
-ghost use Prim.Native.Nat.{ℕ};
 ghost use Rattle.board.specs.PatternRefused.{Cause};
 ghost use Rattle.board.specs.Patterns.{Lawful, opens};
 ghost use Rattle.std.specs.Results.{Cases};

@@ -1,7 +1,6 @@
-ghost use Prim.Native.Nat.{ℕ};
+ghost use Rattle.board.specs.Drafts.{draft-gates, draft-spots};
 ghost use Rattle.board.specs.GateRefused.{Cause, Fits};
 ghost use Rattle.board.specs.Gates.{repeats, same-pair};
-ghost use Rattle.std.specs.Of.Vec.{vec-items};
 ghost use Rattle.std.specs.Results.{Cases};
 ghost use mathlib.Core.List.{_++_, _∷_, []};
 ghost use mathlib.Core.Path.{_≡_};
@@ -33,8 +32,8 @@ fn is_repeated(gate: &Gate, others: &[Gate]) -> bool
 impl Draft {
     // One gate more, or why not; a refused gate leaves the draft as it was.
     pub fn add(&mut self, gate: Gate) -> Result<(), GateRefusal>
-        ensures spots { λ _. ⌜ now (self .exit) .spots ≡ now (self .entry) .spots ⌝ }
-        ensures gates { λ r. ⌜ Cases r (λ _. Fits (now (self .entry) .spots) (vec-items (now (self .entry) .gates)) gate × (vec-items (now (self .exit) .gates) ≡ vec-items (now (self .entry) .gates) ++ (gate ∷ []))) (λ e. Cause (now (self .entry) .spots) (vec-items (now (self .entry) .gates)) gate e × (vec-items (now (self .exit) .gates) ≡ vec-items (now (self .entry) .gates))) ⌝ }
+        ensures spots { λ _. ⌜ draft-spots (now (self .exit)) ≡ draft-spots (now (self .entry)) ⌝ }
+        ensures gates { λ r. ⌜ Cases r (λ _. Fits (draft-spots (now (self .entry))) (draft-gates (now (self .entry))) gate × (draft-gates (now (self .exit)) ≡ draft-gates (now (self .entry)) ++ (gate ∷ []))) (λ e. Cause (draft-spots (now (self .entry))) (draft-gates (now (self .entry))) gate e × (draft-gates (now (self .exit)) ≡ draft-gates (now (self .entry)))) ⌝ }
     {
         if gate.from >= self.spots || gate.to >= self.spots {
             return Err(GateRefusal::OffBoard);

@@ -1,5 +1,4 @@
 use native.Mathlib.Omega.{arith}
-use Prim.Native.Nat.{_*_, _<_, _≤_}
 use Rattle.std.proofs.shelf.Bits.{mul-le}
 use Rattle.board.proofs.Clocks.{first-common, not-last, tried-more}
 use Rattle.board.proofs.clock.least_common.Needs as need

@@ -24,4 +24,4 @@ pub cast-result : need.cast-result
 cast-result c =
     let n = c .args .spots in
     let t = c .period-of-period .result * 2 in
-    omega (arith, before t n 1048576 (c .pre .0 .0) (before (t * n) n 1048576 (c .pre .0 .0) (c .if-period-n-gt-MOST-PLACES .left)))
+    omega (arith, before t n _ (c .pre .0 .0) (before (t * n) n _ (c .pre .0 .0) (c .if-period-n-gt-MOST-PLACES .left)))

@@ -1,10 +1,10 @@
 use native.Mathlib.Omega.{arith}
 use Prim.Native.Nat.{_+_}
-use mathlib.Core.Path.{_≡_, sym, ap, _∙_}
+use mathlib.Core.Path.{sym, ap, _∙_}
 use mathlib.Core.Bool.{_||_}
-use lib.ListN.{getD, drop}
+use lib.ListN.{drop}
 use Rattle.std.proofs.shelf.Lists.{at-drop-all}
-use Rattle.board.specs.Gates.{same-pair, repeats}
+use Rattle.board.specs.Gates.{repeats}
 use Rattle.board.proofs.Drafted.{repeats-here}
 use Rattle.board.proofs.draft.add.is_repeated.Needs as need
 

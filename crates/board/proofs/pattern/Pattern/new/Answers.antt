@@ -1,5 +1,5 @@
 use native.Mathlib.Omega.{arith}
-use Prim.Native.Nat.{_<_, _≤_, _^_}
+use Prim.Native.Nat.{_≤_, _^_}
 use Rattle.std.proofs.shelf.Bits.{pow-pos}
 use Rattle.board.proofs.SetBits.{within-below, bit-from, some-bit, shifted-out, shifted-on}
 use Rattle.board.proofs.pattern.Pattern.new.Needs as need

@@ -1,0 +1,4 @@
+pub mod Edges
+pub mod Publishing
+pub mod Folding
+pub mod Trapping

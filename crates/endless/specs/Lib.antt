@@ -1,0 +1,4 @@
+pub mod Published
+pub mod Endless
+pub mod Trapped
+pub mod Laws
