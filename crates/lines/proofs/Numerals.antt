@@ -1,12 +1,10 @@
 -- The numbers and the bits that texts write.
-use mathlib.Core.Bool.{Bool, true, false, cond}
 use mathlib.Core.List.{List, [], _∷_, _++_, map}
 use mathlib.Core.Path.{_≡_, refl, sym, ap, _∙_}
 use Prim.Native.Nat.{ℕ, zero, suc, _+_, _-_, _*_, _/_, _%_, _^_, _≤_, _<_, min}
 use native.Mathlib.Nat.{pow-suc}
 use native.Mathlib.Numerals.{one-add}
 use native.Mathlib.Omega.{arith}
-use lib.Dec.{eqb}
 use lib.ListN.{length, getD, take, drop, length-take, length-drop, drop-of-length-le}
 use lib.Pow.{pow-mono}
 use lib.Seq.{getD-take, take-all}
@@ -14,7 +12,7 @@ use Rattle.std.proofs.shelf.Bits.{shr-shr}
 use Rattle.std.proofs.shelf.Ways.{tells}
 use Rattle.std.proofs.shelf.Lists.{take-more, drop-more}
 use Rattle.std.specs.shelf.Digits.{numberAfter}
-use Rattle.lines.specs.declared.kind.Kind.the-variants.{Number, Pattern}
+use Rattle.lines.specs.declared.kind.Kind.the-variants.{Number}
 use Rattle.lines.specs.Grammar.{FieldOf}
 use Rattle.lines.specs.Values.{decimal, bit, bits, Numbered, Stepped}
 

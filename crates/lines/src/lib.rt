@@ -1,4 +1,4 @@
-// Reads a sheet line by line. What is read borrows the sheet.
+//! Reads a sheet line by line. What is read borrows the sheet.
 mod field;
 pub mod kind;
 pub mod line;

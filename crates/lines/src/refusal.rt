@@ -1,5 +1,7 @@
 ghost use mathlib.Core.Path.{_≡_};
-ghost use Rattle.lines.specs.Refusals.{told};
+ghost use Rattle.std.specs.declared.option.Option.the-variants.{Some};
+ghost use Rattle.lines.specs.Refusals.{printed, told};
+use std::fmt;
 
 // What a rule is about.
 #[derive(Clone, Copy, PartialEq, Eq, Debug)]
@@ -15,6 +17,16 @@ pub struct Told {
     pub number: u8,
     pub offset: usize,
     pub layer: Layer,
+}
+
+pub impl fmt::Display for Told as ToldDisplay {
+    ghost shown = { λ t. Some (printed t) };
+
+    fn fmt<W: fmt::Write>(&self, f: &mut fmt::Formatter<W>) -> fmt::Result {
+        let number = self.number;
+        let offset = self.offset;
+        write!(f, "refused {number} {offset}")
+    }
 }
 
 // Why no line is read.

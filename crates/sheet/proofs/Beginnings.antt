@@ -1,6 +1,6 @@
 -- Beginnings of a sheet: how one line more goes on with them.
 use mathlib.Core.List.{List, [], _∷_, _++_, append-assoc, append-nil}
-use mathlib.Core.Logic.{_⊎_, inl, inr}
+use mathlib.Core.Logic.{inl, inr}
 use mathlib.Core.Path.{_≡_, refl, sym, ap, subst, _∙_}
 use Prim.Native.Nat.{ℕ, _+_, _-_, _≤_, _<_}
 use native.Mathlib.Omega.{arith}
@@ -17,7 +17,7 @@ use Rattle.lines.specs.declared.kind.Kind.the-variants.{Number}
 use Rattle.lines.specs.declared.part.Part.{Part}
 use Rattle.lines.specs.declared.refusal.Told.{Told}
 use Rattle.lines.specs.Grammar.{FieldOf}
-use Rattle.lines.specs.Lines.{Entry, board, gate, trap, end, Formed, line-bytes, entry-of, fields, Laid, Line-at}
+use Rattle.lines.specs.Lines.{Entry, board, end, Formed, line-bytes, entry-of, fields, Laid, Line-at}
 use Rattle.lines.specs.Values.{decimal}
 use Rattle.board.specs.declared.draft.refusal.SpotsRefusal.{SpotsRefusal}
 use Rattle.board.specs.declared.draft.refusal.SpotsRefusal.the-variants.{OutOfRange}
@@ -27,10 +27,10 @@ use Rattle.sheet.proofs.Tables.{any-more}
 use Rattle.sheet.specs.declared.refusal.Refusal.{Refusal}
 use Rattle.sheet.specs.declared.sheet.Sheet.{Sheet}
 use Rattle.sheet.specs.Parts.{Begun, Stopped, Turned-down, Ended}
-use Rattle.sheet.specs.Readings.{Grows, Explains, Right}
-use Rattle.sheet.specs.Refusals.{board-rule, told}
-use Rattle.sheet.specs.Rules.{Within, breaches, Clean, First, Goes-on, Lawful, Fault, unlawful, Broken-at, Writes}
-use Rattle.sheet.specs.Says.{Held, added, after, written, kept}
+use Rattle.sheet.specs.Readings.{Explains, Right}
+use Rattle.sheet.specs.Refusals.{board-rule}
+use Rattle.sheet.specs.Rules.{Within, breaches, Clean, First, Goes-on, Lawful, Fault, unlawful, Broken-at}
+use Rattle.sheet.specs.Says.{Held, added, after, written}
 
 lawful-push : (s : Option Held) (es : List Entry) (e : Entry) → Lawful s es → Goes-on e → Formed e → Clean (breaches (after s es) e []) → Lawful s (es ++ (e ∷ []))
 lawful-push s [] e h on formed clean = (on, formed, clean, tt)

@@ -2,15 +2,14 @@
 use mathlib.Core.Bool.{Bool, true, _&&_}
 use mathlib.Core.List.{List, [], _∷_}
 use mathlib.Core.Path.{_≡_, refl, sym, ap, subst, _∙_}
-use Prim.Native.Nat.{ℕ, _%_, _≤_, _<_}
-use native.Mathlib.Omega.{arith}
+use Prim.Native.Nat.{ℕ, _%_, _≤_}
 use lib.Dec.{eqb}
 use Rattle.board.proofs.Clocks.{period-unique}
 use Rattle.board.specs.declared.gate.Gate.{Gate}
 use Rattle.board.specs.Clock.{divided, Period}
 use Rattle.board.specs.Gates.{places}
 use Rattle.sheet.specs.Rules.{Within}
-use Rattle.sheet.specs.Says.{Row, Held, rows}
+use Rattle.sheet.specs.Says.{Row, rows}
 
 row-divided : ℕ → List Row → Bool
 row-divided m [] = true

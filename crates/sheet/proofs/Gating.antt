@@ -3,7 +3,7 @@ use mathlib.Core.Bool.{true, false, _&&_}
 use mathlib.Core.List.{List, [], _∷_, _++_}
 use mathlib.Core.Logic.{_⊎_, inl, inr}
 use mathlib.Core.Path.{_≡_, refl, sym, ap, subst, _∙_}
-use Prim.Native.Nat.{ℕ, _+_, _/_, _%_, _^_, _≤_, _<_}
+use Prim.Native.Nat.{ℕ, _+_, _<_}
 use native.Mathlib.Nat.{add-zero}
 use native.Mathlib.Omega.{arith}
 use lib.Dec.{eqb}
@@ -11,7 +11,7 @@ use lib.ListN.{length, getD}
 use Rattle.std.proofs.shelf.Elements.{all-getD, all-from-getD}
 use Rattle.std.proofs.shelf.Tests.{both-ways, eq-eqb, false≢true}
 use Rattle.std.proofs.shelf.Ways.{decides-eqb, decides-and, decides-or, not-from-decides}
-use Rattle.std.specs.declared.option.Option.the-variants.{None, Some}
+use Rattle.std.specs.declared.option.Option.the-variants.{Some}
 use Rattle.std.specs.Orderings.{Decides}
 use Rattle.std.specs.shelf.Lists.{All, Every}
 use Rattle.board.proofs.SetBits.{within-below}
@@ -30,8 +30,8 @@ use Rattle.lines.specs.Lines.{gate, trap}
 use Rattle.lines.specs.Values.{decimal, bits, bit as character-bit, Stepped}
 use Rattle.sheet.specs.Parts.{gate-refusal, Turned-down}
 use Rattle.sheet.specs.Refusals.{board-rule, told}
-use Rattle.sheet.specs.Rules.{Joins, Joined, breaches, Clean, First}
-use Rattle.sheet.specs.Says.{Row, Held, row, row-of, rows}
+use Rattle.sheet.specs.Rules.{Joined, breaches, Clean}
+use Rattle.sheet.specs.Says.{Row, row, row-of, rows}
 
 pub length-rows : (gs : List Gate) → length (rows gs) ≡ length gs
 length-rows [] = refl

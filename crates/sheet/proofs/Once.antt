@@ -1,8 +1,8 @@
 -- A text is one sheet, or broken in one way, and not both.
-use mathlib.Core.List.{List, [], _∷_, _++_, append-assoc, append-nil}
+use mathlib.Core.List.{List, [], _∷_, _++_, append-assoc}
 use mathlib.Core.Logic.{_⊎_, inl, inr}
 use mathlib.Core.Path.{_≡_, refl, sym, ap, subst, _∙_}
-use Prim.Native.Nat.{ℕ, _+_, _≤_, _<_}
+use Prim.Native.Nat.{ℕ, _+_}
 use native.Mathlib.Omega.{arith}
 use lib.ListN.{length}
 use Rattle.std.specs.declared.option.Option.{Option}
@@ -16,7 +16,7 @@ use Rattle.sheet.proofs.Tables.{first-once, first-clean, any-more}
 use Rattle.sheet.proofs.Traps.{writes-traps}
 use Rattle.sheet.specs.declared.refusal.Refusal.{Refusal}
 use Rattle.sheet.specs.declared.sheet.Sheet.{Sheet}
-use Rattle.sheet.specs.Readings.{Explains, Gives, Tells, Right, Reads}
+use Rattle.sheet.specs.Readings.{Explains, Right, Reads}
 use Rattle.sheet.specs.Refusals.{told}
 use Rattle.sheet.specs.Rules.{Within, breaches, Clean, First, Goes-on, Lawful, Writes, Fault, nothing, unread, unlawful, Broken-at}
 use Rattle.sheet.specs.Says.{Held, added, after, written, kept}

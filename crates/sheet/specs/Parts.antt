@@ -22,7 +22,7 @@ use Rattle.sheet.specs.declared.refusal.Refusal.the-variants.{OutOfRange, Repe
 use Rattle.sheet.specs.declared.sheet.Sheet.{Sheet}
 use Rattle.sheet.specs.Refusals.{board-rule, told}
 use Rattle.sheet.specs.Says.{Held, added, after, written, rows, kept}
-use Rattle.sheet.specs.Rules.{Over, Within, breaches, Clean, First, Goes-on, Lawful, Fault}
+use Rattle.sheet.specs.Rules.{Over, Within, breaches, Clean, First, Lawful, Fault}
 use Rattle.sheet.specs.Readings.{Grows}
 
 -- what was read so far

@@ -1,4 +1,4 @@
-// Reads a whole sheet: the board and the traps that it writes, or why it writes none.
+//! Reads a whole sheet: the board and the traps that it writes, or why it writes none.
 pub mod read;
 mod reading;
 pub mod refusal;

@@ -21,7 +21,7 @@ pub(crate) struct Reading {
     pub traps: Vec<u8>,
 }
 
-// Why a gate's line at the offset `at` is refused.
+// Why a gate's line at the offset `at` is refused. An end off the board is told ahead of this, at its number.
 fn gate_refusal(why: GateRefusal, at: usize) -> Refusal
     ensures { λ r. ⌜ r ≡ gate-refusal why at ⌝ }
 {

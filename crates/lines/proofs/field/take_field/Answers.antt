@@ -1,11 +1,10 @@
-use mathlib.Core.Path.{_≡_, refl, sym, _∙_, ap, subst}
+use mathlib.Core.Path.{_≡_, refl, sym, _∙_, ap}
 use mathlib.Core.List.{_∷_}
 use Prim.Native.Nat.{_<_}
 use native.Mathlib.Omega.{arith}
 use lib.ListN.{length, getD, drop, length-drop}
 use borrow.Author.Needs.{needs}
 use Rattle.std.proofs.shelf.Lists.{take-rest, drop-more}
-use Rattle.lines.specs.Reading.{Longest}
 use Rattle.lines.proofs.Fields.{longest-ends}
 use Rattle.lines.proofs.Refusing.{refused-space, refused-field}
 use Rattle.lines.proofs.field.take_field.Needs as need

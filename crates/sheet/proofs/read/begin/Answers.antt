@@ -1,10 +1,7 @@
-use mathlib.Core.List.{[]}
-use mathlib.Core.Path.{_≡_, sym, ap, _∙_}
+use mathlib.Core.Path.{ap, _∙_}
 use native.Mathlib.Omega.{arith}
 use Rattle.std.proofs.shelf.Results.{err-from-errBy}
-use Rattle.std.specs.declared.option.Option.the-variants.{None, Some}
-use Rattle.board.specs.declared.draft.refusal.SpotsRefusal.{SpotsRefusal}
-use Rattle.lines.specs.Values.{decimal}
+use Rattle.std.specs.declared.option.Option.the-variants.{None}
 use Rattle.sheet.specs.Says.{rows}
 use Rattle.sheet.proofs.Beginnings.{begun-none, begun-first, stopped, not-first, bad-size, size-cause}
 use Rattle.sheet.proofs.read.begin.Needs as need

@@ -1,6 +1,6 @@
 use mathlib.Core.List.{_++_, _∷_, []}
 use mathlib.Core.Logic.{inl, inr}
-use mathlib.Core.Path.{_≡_, refl, sym, ap, subst, _∙_}
+use mathlib.Core.Path.{_≡_, sym, ap, subst, _∙_}
 use Prim.Native.Nat.{ℕ, _+_}
 use native.Mathlib.Omega.{arith}
 use lib.ListN.{length}
@@ -12,7 +12,7 @@ use Rattle.lines.specs.declared.refusal.Told.{Told}
 use Rattle.lines.specs.Lines.{gate}
 use Rattle.sheet.specs.Parts.{said, Turned-down}
 use Rattle.sheet.specs.Refusals.{told}
-use Rattle.sheet.specs.Says.{rows, Held}
+use Rattle.sheet.specs.Says.{rows}
 use Rattle.sheet.proofs.Gating.{rows-push, pattern-shut, pattern-opens, row-is, fits-clean, cause-told}
 use Rattle.sheet.proofs.reading.Reading.add_gate.Needs as need
 

@@ -1,4 +1,4 @@
-use mathlib.Core.Path.{_≡_, refl, ap, subst}
+use mathlib.Core.Path.{subst}
 use Rattle.std.specs.Of.Vec.{vec-items}
 use Rattle.board.specs.Clock.{Period}
 use Rattle.board.specs.Gates.{places}
