@@ -14,7 +14,8 @@ use Rattle.gated.specs.Games.{game-of}
 use Rattle.gated.specs.Places.{runner-of}
 use Rattle.gated.specs.Traps.{is-trap, spot-byte}
 use Rattle.endless.specs.Endless.{endless-rules, fold}
-use Rattle.endless.specs.Trapped.{caught-too, on-trap, Tells-traps, by-bytes}
+use Rattle.endless.specs.Trapped.{on-trap, Tells-traps, by-bytes}
+use Rattle.trap.specs.Traps.{caught-too}
 use Rattle.endless.proofs.Folding.{folded, runner-same}
 
 byte-back : (b : Bool) → eqb (cond b 1 0) 1 ≡ b

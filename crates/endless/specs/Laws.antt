@@ -13,7 +13,8 @@ use Rattle.gated.specs.Games.{game-of}
 use Rattle.gated.specs.Places.{next}
 use Rattle.endless.specs.Published.{Published-step}
 use Rattle.endless.specs.Endless.{endless-rules, reached, fold}
-use Rattle.endless.specs.Trapped.{caught-too, on-trap, Tells-traps, by-bytes}
+use Rattle.endless.specs.Trapped.{on-trap, Tells-traps, by-bytes}
+use Rattle.trap.specs.Traps.{caught-too}
 
 -- the moves of a board's game are exactly the published ones
 abbrev pub Moves-published : Type 0

@@ -1,7 +1,8 @@
 //! Trials of the solver on small arenas and boards whose tables are known.
 #[cfg(test)]
 mod boards;
-pub mod lists;
+#[cfg(test)]
+mod lists;
 #[cfg(test)]
 mod openings;
 #[cfg(test)]
