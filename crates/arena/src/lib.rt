@@ -1,4 +1,6 @@
 //! Arenas of pursuit games: what a game is, what is claimed of its marks and plans, and how an arena is asked about it.
+#![tactic(auto)]
+
 pub mod admit;
 pub mod interface;
 pub mod listing;

@@ -1,4 +1,6 @@
 //! Gated boards as plain rows: patterns, gates, the clock, a board in the making, and the board.
+#![tactic(auto)]
+
 pub mod board;
 mod clock;
 pub mod draft;

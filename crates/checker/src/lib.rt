@@ -1,4 +1,6 @@
 //! Judges tables from elsewhere. It knows arenas and the table rules, and nothing of how a table is made.
+#![tactic(auto)]
+
 pub mod judge;
 mod place;
 pub mod refusal;

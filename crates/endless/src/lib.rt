@@ -1,4 +1,6 @@
 //! The laws of gated boards, each on the contract of a function that does nothing else.
+#![tactic(auto)]
+
 ghost use Rattle.endless.specs.Laws.{BytesTell, EndlessFolds, EndlessPublished, MovesPublished, PilesFold, TrapsFold};
 
 // The moves of a board's game are exactly the published ones.

@@ -1,4 +1,6 @@
 //! Reads a sheet from standard input, solves its board whole, and prints what it found.
+#![tactic(auto)]
+
 use anyhow::anyhow;
 use report::solve_sheet::{MOST_BYTES, solve_sheet};
 use std::io::Read;

@@ -1,4 +1,6 @@
 //! The arena of a gated board, with an index of the exits of every spot at every step.
+#![tactic(auto)]
+
 pub mod gated;
 mod index;
 pub mod laws;

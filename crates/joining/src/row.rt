@@ -6,7 +6,7 @@ use crate::pair::Pair;
 
 // The join of what each mark of the row counts as, in order; positions go on from `first` and begin again at 0 after the last.
 pub fn fold_row<J: Joining>(row: &[u32], first: u64) -> J
-    ensures { result ≡ folded neutral joined single first row.now }
+    ensures { result ≡ folded J.Joining.neutral J.Joining.joined J.Joining.single first row.now }
 {
     let mut all = J::start();
     for (index, mark) in row.iter().enumerate() {
@@ -17,9 +17,9 @@ pub fn fold_row<J: Joining>(row: &[u32], first: u64) -> J
 
 // The fold of a row that is given in two parts: the join of both folds, the second begun at the cut's position.
 pub fn fold_parts<J: Joining>(front: &[u32], back: &[u32], first: u64) -> J
-    ensures parts { result ≡ joined (folded neutral joined single first front.now) (folded neutral joined single ((first + length front.now) % 2 ^ 64) back.now) }
-    ensures whole { result ≡ folded neutral joined single first (front.now ++ back.now) }
-    ensures cut { Cut neutral joined single }
+    ensures parts { result ≡ J.Joining.joined (folded J.Joining.neutral J.Joining.joined J.Joining.single first front.now) (folded J.Joining.neutral J.Joining.joined J.Joining.single ((first + length front.now) % 2 ^ 64) back.now) }
+    ensures whole { result ≡ folded J.Joining.neutral J.Joining.joined J.Joining.single first (front.now ++ back.now) }
+    ensures cut { Cut J.Joining.neutral J.Joining.joined J.Joining.single }
 {
     let left: J = fold_row(front, first);
     left.join(fold_row(back, first.wrapping_add(front.len() as u64)))

@@ -1,4 +1,6 @@
 //! Reads a sheet line by line. What is read borrows the sheet.
+#![tactic(auto)]
+
 mod field;
 pub mod kind;
 pub mod line;

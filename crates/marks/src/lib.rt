@@ -1,4 +1,6 @@
 // The marks of places, and what a row of them comes to: each player's pick and the tally.
+#![tactic(auto)]
+
 pub mod mark;
 pub mod pick;
 pub mod pursuer;

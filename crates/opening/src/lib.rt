@@ -1,4 +1,6 @@
 //! Where a game on a board opens, and the runner's reply to any pursuer start.
+#![tactic(auto)]
+
 pub mod refusal;
 mod rows;
 pub mod start;

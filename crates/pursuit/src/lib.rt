@@ -1,4 +1,6 @@
 //! A gated board with its traps, solved whole, and tables of it judged.
+#![tactic(auto)]
+
 pub mod check_board;
 pub mod fault;
 pub mod refusal;

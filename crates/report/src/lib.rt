@@ -1,4 +1,6 @@
 //! A sheet solved from beginning to end, and what is printed of it.
+#![tactic(auto)]
+
 pub mod failure;
 pub mod report;
 pub mod solve_sheet;

@@ -1,4 +1,6 @@
 //! The words of a table: what a begin, a round, a finish and an abandoning write, each told the arena.
+#![tactic(auto)]
+
 pub mod begin;
 pub mod fill;
 pub mod finish;

@@ -1,4 +1,6 @@
 //! Reads a whole sheet: the board and the traps that it writes, or why it writes none.
+#![tactic(auto)]
+
 pub mod read;
 mod reading;
 pub mod refusal;

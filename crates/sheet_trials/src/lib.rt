@@ -1,4 +1,6 @@
 //! Generated sheets, lawful and damaged, read by `sheet` and by a reader that is written another way.
+#![tactic(auto)]
+
 #[cfg(test)]
 mod agree;
 #[cfg(test)]

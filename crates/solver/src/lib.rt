@@ -1,4 +1,6 @@
 //! Runs over a table: begin, round, finish and abandon, and a whole solve.
+#![tactic(auto)]
+
 mod end;
 pub mod finish_refusal;
 pub mod finished;

@@ -1,4 +1,6 @@
 //! The theorems about games, each on the contract of a function that does nothing else.
+#![tactic(auto)]
+
 ghost use Rattle.theory.specs.Theorems.{ClaimsFold, ClaimsGiveRules, CountsBelow, LevelsGiveAttractor, LevelsGiveRules, MarksExist, RulesFold, RulesGiveClaims, RulesGiveLabels, RulesGiveLevels};
 
 // A table that obeys the table rules makes true claims of whole plays.

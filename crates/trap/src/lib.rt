@@ -1,4 +1,6 @@
 //! Traps: a layer of capture places over any arena.
+#![tactic(auto)]
+
 pub mod refusal;
 pub mod trapped;
 

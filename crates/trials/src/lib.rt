@@ -1,4 +1,6 @@
 //! Trials of the solver and the checker on small arenas and boards whose tables are known, and a lender that knows its table.
+#![tactic(auto)]
+
 #[cfg(test)]
 mod boards;
 #[cfg(test)]

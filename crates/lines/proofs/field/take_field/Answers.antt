@@ -13,22 +13,22 @@ returns-then-n-lt-FEWEST c ks =
     let some : 0 < length c.args.rest.now = search rules in
     let is : get_or c.args.rest.now 0 0 ≡ 32 = search rules in
     let begins : c.args.rest.now ≡ 32 ∷ drop 1 c.args.rest.now = drop_more c.args.rest.now 0 0 some ∙ ap (λ b. b ∷ drop 1 c.args.rest.now) is in
-    let none : c.field-len-n.result ≡ 0 = omega (arith, c.if-n-lt-FEWEST.true) in
+    let none : c.field_len-n.result ≡ 0 = omega (arith, c.if-n-lt-FEWEST.true) in
     refused_field c.args.kind ks c.args.at c.args.rest.now (drop 1 c.args.rest.now) begins
-    (rw (none, take_rest) at c.field-len-n.ensures)
+    (rw (none, take_rest) at c.field_len-n.ensures)
 
 pub returns : goal.returns
 returns c =
     let some : 0 < length c.args.rest.now = search rules in
     let is : get_or c.args.rest.now 0 0 ≡ 32 = search rules in
     let begins : c.args.rest.now ≡ 32 ∷ drop 1 c.args.rest.now = drop_more c.args.rest.now 0 0 some ∙ ap (λ b. b ∷ drop 1 c.args.rest.now) is in
-    let longest = c.field-len-n.ensures in
-    let cut = c.split-at.ensures in
+    let longest = c.field_len-n.ensures in
+    let cut = c.split_at.ensures in
     record {
       parts = begins ∙ ap (λ x. 32 ∷ x) (sym (take_rest c.args.rest.now 1) ∙ cut.by_index.0);
       good = rw cut.front (longest.good (omega (arith, c.if-n-lt-FEWEST.false)));
       ends = rw (cut.front, cut.back) (longest_ends _ _ _ longest);
       offset = refl;
-      goes_on = omega (arith, cut.front-len);
+      goes_on = omega (arith, cut.front_len);
       spans = omega (arith, cut.back_len, ap length (take_rest c.args.rest.now 1), length-drop 1 c.args.rest.now);
     }

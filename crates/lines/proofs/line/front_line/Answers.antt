@@ -8,7 +8,7 @@ pub split-at-requires : goal.split-at-requires
 split-at-requires c = found_within _ _ _ _ _ c.in-Some.ensures c.in-Ok.ensures
 
 pub returns-in-Ok : goal.returns-in-Ok
-returns-in-Ok c = found_line _ _ _ _ _ _ c.in-Some.ensures c.in-Ok.ensures c.split-at.ensures.front refl
+returns-in-Ok c = found_line _ _ _ _ _ _ c.in-Some.ensures c.in-Ok.ensures c.split_at.ensures.front refl
 
 pub returns-in-Err : goal.returns-in-Err
 returns-in-Err c =

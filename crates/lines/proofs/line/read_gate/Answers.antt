@@ -32,7 +32,7 @@ pub returns : goal.returns
 returns c = record {
   marked = refl;
   rest =
-      reads_after Number _ _ _ c.in-ok-u.u _ _ c.in-ok-u.ensures
-      (reads_after Number _ _ _ c.in-ok-v.v _ _ c.in-ok-v.ensures
-      (reads_after Pattern _ _ _ c.in-ok-pattern.pattern _ _ c.in-ok-pattern.ensures c.in-ok-next.ensures));
+      reads_after Number _ _ _ c.in_ok-u.u _ _ c.in_ok-u.ensures
+      (reads_after Number _ _ _ c.in_ok-v.v _ _ c.in_ok-v.ensures
+      (reads_after Pattern _ _ _ c.in_ok-pattern.pattern _ _ c.in_ok-pattern.ensures c.in-ok-next.ensures));
 }

@@ -6,5 +6,5 @@ use Rattle.lines.proofs.line.read_line.Goals as goal
 pub returns : goal.returns
 returns c =
     let sheet = c.args.sheet.now in
-    let front = subst (λ l. Answers c.min-start.result l c.front-line.result) c.split-at.ensures.back c.front-line.ensures in
-    sole sheet c.args.at c.front-line.result (subst (λ n. Answers n (drop n sheet) c.front-line.result) c.min-start.ensures front)
+    let front = subst (λ l. Answers c.min-start.result l c.front_line.result) c.split_at.ensures.back c.front_line.ensures in
+    sole sheet c.args.at c.front_line.result (subst (λ n. Answers n (drop n sheet) c.front_line.result) c.min-start.ensures front)

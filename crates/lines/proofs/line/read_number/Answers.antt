@@ -11,4 +11,4 @@ returns-in-err-next c =
     rw (p.1, p.2) (refused_took Number [] _ _ c.in-ok-n.n _ c.in-ok-n.ensures c.in-err-next.ensures)
 
 pub returns : goal.returns
-returns c = reads_after Number _ _ _ c.in-ok-n.n _ _ c.in-ok-n.ensures c.in-ok-next.ensures
+returns c = reads_after Number _ _ _ c.in_ok-n.n _ _ c.in_ok-n.ensures c.in_ok-next.ensures

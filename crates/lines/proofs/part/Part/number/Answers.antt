@@ -6,7 +6,7 @@ use Rattle.lines.proofs.part.Part.number.Goals as goal
 pub loop-b-preserved : goal.loop-b-preserved
 loop-b-preserved c =
     let more = decimal_more c.args.self.bytes.now c.loop-b.b-index (omega arith) in
-    omega (arith, more, held_more (decimal (take c.loop-b.b-index c.args.self.bytes.now)) c.saturating-sub.result)
+    omega (arith, more, held_more (decimal (take c.loop-b.b-index c.args.self.bytes.now)) c.saturating_sub.result)
 
 pub returns : goal.returns
 returns c =
