@@ -16,12 +16,12 @@ overflow-cast-result g c =
 pub returns-in-Runner : goal.returns-in-Runner
 returns-in-Runner g c =
     let G : Game = g.A.Arena.game c.args.arena.now in
-    let e = c.unwrap-or-player.ensures ∙ rw c.owner.ensures (owner_known G c.args.place Runner c.requires.place) in
-    let told = scan_nothing G.rules c.args.cap c.args.table.now c.args.place _ e (rw c.in-Nothing.is at c.pick-move-seen.ensures.pick) in
+    let e = c.unwrap_or-player.ensures ∙ rw c.owner.ensures (owner_known G c.args.place Runner c.requires.place) in
+    let told = scan_nothing G.rules c.args.cap c.args.table.now c.args.place _ e (rw c.in-Nothing.is at c.pick_move-seen.ensures.pick) in
     record {
       word = told.0;
       ready = ((λ _. told.1 c.in-Runner.is), (λ _. refl));
-      looks = c.pick-move-seen.ensures.looks;
+      looks = c.pick_move-seen.ensures.looks;
     }
 
 pub returns-in-default : goal.returns-in-default
@@ -38,10 +38,10 @@ returns-in-default g c =
 pub returns-in-At : goal.returns-in-At
 returns-in-At g c =
     let G : Game = g.A.Arena.game c.args.arena.now in
-    let e = c.unwrap-or-player.ensures ∙ rw c.owner.ensures (owner_known G c.args.place Runner c.requires.place) in
-    let told = scan_at G.rules c.args.cap c.args.table.now c.args.place _ e c.requires.sound.0 _ _ (rw c.in-At.is at c.pick-move-seen.ensures.pick) in
+    let e = c.unwrap_or-player.ensures ∙ rw c.owner.ensures (owner_known G c.args.place Runner c.requires.place) in
+    let told = scan_at G.rules c.args.cap c.args.table.now c.args.place _ e c.requires.sound.0 _ _ (rw c.in-At.is at c.pick_move-seen.ensures.pick) in
     record {
       word = told.1;
       ready = ((λ b. told.2 (ltb-true _ _ b)), (λ r. lt-ltb _ _ (told.3 r)));
-      looks = c.pick-move-seen.ensures.looks;
+      looks = c.pick_move-seen.ensures.looks;
     }
