@@ -1,9 +1,9 @@
-use Rattle.std.proofs.Common.{◌≡◌, ℕ, ◌+◌, ◌<◌, set, sym, refl, ap, ◌∙◌, inl, inr, arith}
+use Rattle.std.proofs.Common.{ℕ, ◌+◌, ◌<◌, set, sym, refl, ap, ◌∙◌, inl, inr, arith}
 use Rattle.arena.specs.Game.{Game}
 use Rattle.marks.specs.Marks.{blank, never}
 use Rattle.rounds.specs.Words.{FinishWords}
 use Rattle.rounds.proofs.Positions.{best_same, best_closed}
-use Rattle.rounds.proofs.Sweep.{Sweep, sweep_start, sweep_keep, sweep_set, sweep_at}
+use Rattle.rounds.proofs.Sweep.{sweep_start, sweep_keep, sweep_set, sweep_at}
 use Rattle.rounds.proofs.Turn.{finish_alike}
 use Rattle.rounds.proofs.finish.close_blanks.Goals as goal
 use Rattle.rounds.proofs.finish.close_blanks.Goals.{then-table-place, else-table-place}

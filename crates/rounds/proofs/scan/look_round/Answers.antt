@@ -1,5 +1,5 @@
-use Rattle.std.proofs.Common.{◌≡◌, ℕ, ◌+◌, ◌%◌, ◌^◌, ◌<◌, min, List, length, get_or, sym, ap, ◌∙◌, arith, take_all}
-use Rattle.arena.specs.Game.{Game, Rules, degree}
+use Rattle.std.proofs.Common.{◌≡◌, ℕ, ◌+◌, ◌%◌, ◌^◌, min, List, get_or, sym, ap, ◌∙◌, arith, take_all}
+use Rattle.arena.specs.Game.{Game, degree}
 use Rattle.arena.proofs.Asked.{target_some, count_known}
 use Rattle.joining.specs.Rows.{folded}
 use Rattle.joining.proofs.Folds.{total_next}

@@ -14,7 +14,7 @@ pub returns : goal.returns
 returns g c =
     let G : Game = g.A.Arena.game c.args.arena.now in
     let made = c.in-ok-made.ensures in
-    let told = round_made G _ _ _ _ _ _ _ _ c.in-ok-made.made c.if-not-self.false c.if-self.false made.0 made.1 c.round-table.auto.table (omega arith) c.saturating-add-self.ensures in
+    let told = round_made G _ _ _ _ _ _ _ _ c.in-ok-made.made c.if-not-self.false c.if-self.false made.0 made.1 c.round-table.auto.table (omega arith) c.saturating_add-self.ensures in
     record { bound = refl; live = refl; told = told; reached = round_reached G _ _ _ told }
 
 pub returns-then-not-self : goal.returns-then-not-self
@@ -31,7 +31,7 @@ pub returns-in-err-admitted : goal.returns-in-err-admitted
 returns-in-err-admitted g c =
     let G : Game = g.A.Arena.game c.args.arena.now in
     let run = c.args.self.now in
-    let p = err_from_is_err_and c.from-residual.result c.from-residual.ensures.1 in
+    let p = err_from_is_err_and c.from_residual.result c.from_residual.ensures.1 in
     let cause = subst (λ (n : ℕ). Cause G n c.in-err-admitted.field-0.0) c.width.ensures c.in-err-admitted.ensures in
     record { bound = refl; live = refl; told = rw (p.1, p.2) (cause, refl); reached = λ r. (r, reached_progress G _ r) }
 
@@ -39,7 +39,7 @@ pub returns-in-err-made : goal.returns-in-err-made
 returns-in-err-made g c =
     let G : Game = g.A.Arena.game c.args.arena.now in
     let run = c.args.self.now in
-    let p = err_from_is_err_and c.from-residual-in-err-made.result c.from-residual-in-err-made.ensures.1 in
+    let p = err_from_is_err_and c.from_residual-in-err-made.result c.from_residual-in-err-made.ensures.1 in
     let why = c.in-err-made.ensures in
     let same : c.round-table.new.table ≡ run.table.now = why.1 in
     let cause = subst (λ (X : List ℕ). Cause G (length X) c.in-err-made.field-0.0) (sym (words_are run.live run.table.now c.if-not-self.false)) why.0 in
