@@ -1,4 +1,4 @@
-use Rattle.std.proofs.Common.{◌≡◌, sym, refl, ◌∙◌, arith}
+use Rattle.std.proofs.Common.{sym, refl, ◌∙◌, arith}
 use Rattle.arena.specs.Game.{Game}
 use Rattle.solver.proofs.Reaching.{reached_holds}
 use Rattle.solver.proofs.Rounding.{round_counts}
