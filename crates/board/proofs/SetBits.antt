@@ -3,7 +3,7 @@ use Rattle.std.proofs.Common.{◌≡◌, ℕ, suc, ◌/◌, ◌%◌, ◌^◌, �
 use native.Mathlib.Nat.{div-eq_of_lt, div-eq_of_lt-le}
 use Rattle.std.proofs.lemmas.Nat.{leading_top, le-div, pow_pos}
 use Rattle.std.proofs.lemmas.Bool.{cases_lt, both_ways}
-use Rattle.board.specs.Patterns.{bit, Within, NoBit}
+use Rattle.board.specs.Patterns.{bit, Within, HasNoBit}
 
 -- a number below 2 ^ m has no bit at m or above
 pub within_below : (a m : ℕ) → a < 2 ^ m → Within a m
@@ -23,7 +23,7 @@ bit_from a m p w h =
     ]
 
 -- a number of 32 bits other than 0 has some bit
-pub some_bit : (a : ℕ) → 0 < a → a < 2 ^ 32 → NoBit a → ⊥
+pub some_bit : (a : ℕ) → 0 < a → a < 2 ^ 32 → HasNoBit a → ⊥
 some_bit a p w none =
     let b = bit_from a 0 p w (omega arith) in
     both_ways (bit a b.0) (none b.0) b.2

@@ -1,6 +1,6 @@
 -- Why bits and a length make no pattern.
 use Rattle.std.specs.Prelude.{◌≡◌, ℕ, ◌≤◌, true, List, []}
-use Rattle.board.specs.Patterns.{bit, LawfulLength, Within, NoBit}
+use Rattle.board.specs.Patterns.{bit, LawfulLength, Within, HasNoBit}
 use Rattle.board.specs.declared.pattern.refusal.PatternRefusal.{PatternRefusal}
 use Rattle.board.specs.declared.pattern.refusal.PatternRefusal.TheVariants.{Length, BitPastLength, NoBit}
 
@@ -14,4 +14,4 @@ told NoBit = (3, [])
 abbrev pub Cause : ℕ → ℕ → PatternRefusal → Type 0
 Cause bits steps Length = LawfulLength steps → ⊥
 Cause bits steps BitPastLength = LawfulLength steps × ((i : ℕ) × (steps ≤ i) × (bit bits i ≡ true))
-Cause bits steps NoBit = LawfulLength steps × Within bits steps × NoBit bits
+Cause bits steps NoBit = LawfulLength steps × Within bits steps × HasNoBit bits

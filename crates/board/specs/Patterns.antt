@@ -14,12 +14,12 @@ abbrev pub Within : ℕ → ℕ → Type 0
 Within bits steps = (i : ℕ) → steps ≤ i → bit bits i ≡ false
 
 -- no bit is set
-abbrev pub NoBit : ℕ → Type 0
-NoBit bits = (i : ℕ) → bit bits i ≡ false
+abbrev pub HasNoBit : ℕ → Type 0
+HasNoBit bits = (i : ℕ) → bit bits i ≡ false
 
 -- these bits and so many steps make a pattern
 abbrev pub Lawful : ℕ → ℕ → Type 0
-Lawful bits steps = LawfulLength steps × Within bits steps × (NoBit bits → ⊥)
+Lawful bits steps = LawfulLength steps × Within bits steps × (HasNoBit bits → ⊥)
 
 -- whether a pattern is open at step t: bit (t mod length) is set
 abbrev pub opens : ℕ → ℕ → ℕ → Bool

@@ -3,8 +3,8 @@ use Rattle.std.proofs.lemmas.Nat.{mul-le}
 use Rattle.board.proofs.Clocks.{first_common, not_last, tried_more}
 use Rattle.board.proofs.clock.least_common.Goals as goal
 
-pub overflow-mul-a : goal.overflow-mul-a
-overflow-mul-a c = omega (arith, mul-le c.args.a c.loop-k.k 144403552893600 32 c.requires.1 (omega (arith, c.loop-k.invariant.1, c.requires.3)))
+pub overflow_mul-a : goal.overflow_mul-a
+overflow_mul-a c = omega (arith, mul-le c.args.a c.loop-k.k 144403552893600 32 c.requires.a_bound (omega (arith, c.loop-k.invariant.1, c.requires.b_bound)))
 
 pub loop-k-smaller : goal.loop-k-smaller
 loop-k-smaller c = omega (arith, not_last c.args.a c.args.b c.loop-k.k c.loop-k.invariant.1 c.loop-k-test.true)
@@ -16,8 +16,8 @@ loop-k-preserved c = (
   tried_more c.args.a c.args.b c.loop-k.k c.loop-k-test.true c.loop-k.invariant.2,
 )
 
-pub overflow-mul-result : goal.overflow-mul-result
-overflow-mul-result c = omega (arith, mul-le c.args.a c.loop-k.k 144403552893600 32 c.requires.1 (omega (arith, c.loop-k.invariant.1, c.requires.3)))
+pub overflow_mul-result : goal.overflow_mul-result
+overflow_mul-result c = omega (arith, mul-le c.args.a c.loop-k.k 144403552893600 32 c.requires.a_bound (omega (arith, c.loop-k.invariant.1, c.requires.b_bound)))
 
 pub returns : goal.returns
-returns c = first_common c.args.a c.args.b c.loop-k.k c.requires.0 c.loop-k.invariant.0 c.loop-k.invariant.2 c.loop-k-test.false
+returns c = first_common c.args.a c.args.b c.loop-k.k c.requires.a_nonzero c.loop-k.invariant.0 c.loop-k.invariant.2 c.loop-k-test.false

@@ -2,12 +2,12 @@ use Rattle.std.proofs.Common.{◌*◌, arith}
 use Rattle.board.proofs.Limits.{before}
 use Rattle.board.proofs.board.Board.places.Goals as goal
 
-pub overflow-mul-result : goal.overflow-mul-result
-overflow-mul-result c =
+pub overflow_mul-result : goal.overflow_mul-result
+overflow_mul-result c =
     let b = c.args.self.now in
     omega (arith, before (b.period * 2) b.spots 1048576 b.sized.0 (before (b.period * 2 * b.spots) b.spots 1048576 b.sized.0 b.small))
 
-pub overflow-mul-result-2 : goal.overflow-mul-result-2
-overflow-mul-result-2 c =
+pub overflow_mul-result-2 : goal.overflow_mul-result-2
+overflow_mul-result-2 c =
     let b = c.args.self.now in
     omega (arith, before (b.period * 2 * b.spots) b.spots 1048576 b.sized.0 b.small)
