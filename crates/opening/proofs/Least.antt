@@ -1,8 +1,6 @@
 -- The least of the greatest marks, one pursuer spot after another.
-use Rattle.std.proofs.Common.{◌≡◌, ℕ, ◌+◌, ◌<◌, ◌≤◌, List, sym, ◌∙◌, subst, arith}
+use Rattle.std.proofs.Common.{◌≡◌, ℕ, ◌+◌, ◌<◌, ◌≤◌, List, sym, subst, arith}
 use native.Mathlib.Decide.{dec_lt}
-use Rattle.marks.specs.Picks.{FirstBest}
-use Rattle.marks.specs.declared.pick.Order.TheVariants.{Greatest}
 use Rattle.marks.specs.Tallies.{Tallied}
 use Rattle.marks.specs.Unique.{TheOne}
 use Rattle.opening.specs.declared.start.Opening.{Opening}

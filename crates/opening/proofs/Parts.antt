@@ -1,5 +1,5 @@
 -- The rows of the marks at the start.
-use Rattle.std.proofs.Common.{◌≡◌, ℕ, suc, ◌+◌, ◌-◌, ◌*◌, ◌<◌, ◌≤◌, List, [], length, take, drop, sym, ap, ◌∙◌, mul-le-mul_right, add-mul, arith, length-drop, length-take}
+use Rattle.std.proofs.Common.{◌≡◌, ℕ, ◌+◌, ◌-◌, ◌*◌, ◌<◌, ◌≤◌, List, length, take, drop, ap, ◌∙◌, mul-le-mul_right, add-mul, arith, length-drop, length-take}
 use Rattle.board.specs.Gates.{places}
 use Rattle.opening.specs.Rows.{row}
 

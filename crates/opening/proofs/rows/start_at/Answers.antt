@@ -8,8 +8,8 @@ use Rattle.opening.specs.Rows.{row}
 use Rattle.opening.proofs.Parts.{row_within, part_row, row_length}
 use Rattle.opening.proofs.rows.start_at.Goals as goal
 
-pub slice-bounds-runner-pick-and-tally-end : goal.slice-bounds-runner-pick-and-tally-end
-slice-bounds-runner-pick-and-tally-end c =
+pub slice_bounds-runner_pick_and_tally-end : goal.slice_bounds-runner_pick_and_tally-end
+slice_bounds-runner_pick_and_tally-end c =
     let w = row_within c.args.spots c.args.pursuer _ c.requires.spot c.requires.long in
     omega arith
 
@@ -17,11 +17,11 @@ pub returns : goal.returns
 returns c =
     let n : ℕ = c.args.spots in
     let marks : List ℕ = c.args.marks.now in
-    let told = c.runner-pick-and-tally-both.ensures in
+    let told = c.runner_pick_and_tally-both.ensures in
     let same = part_row n c.args.pursuer marks in
-    let picked = rw c.in-At.is at (subst (λ (l : List ℕ). Picked Greatest 0 l c.runner-pick-and-tally-both.result.first.pick) same told.picked.has) in
+    let picked = rw c.in-At.is at (subst (λ (l : List ℕ). Picked Greatest 0 l c.runner_pick_and_tally-both.result.first.pick) same told.picked.has) in
     record {
       pursuer = refl;
       replies = picked_index Greatest (row n marks c.args.pursuer) _ _ (omega (arith, row_length n c.args.pursuer marks c.requires.spot c.requires.long)) picked;
-      tallied = subst (λ (l : List ℕ). TheOne (Tallied l) c.runner-pick-and-tally-both.result.second) same told.tallied;
+      tallied = subst (λ (l : List ℕ). TheOne (Tallied l) c.runner_pick_and_tally-both.result.second) same told.tallied;
     }

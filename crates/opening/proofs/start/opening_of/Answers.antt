@@ -6,8 +6,8 @@ use Rattle.opening.proofs.Parts.{rows_fit}
 use Rattle.opening.proofs.start.opening_of.Goals as goal
 use Rattle.opening.proofs.start.opening_of.Goals.{then-next-best, else-next-best}
 
-pub start-at-best-requires : goal.start-at-best-requires
-start-at-best-requires c =
+pub start_at-best-requires : goal.start_at-best-requires
+start_at-best-requires c =
     let b = c.args.board.now in
     let n = c.spots-spots.ensures in
     let fit = rows_fit b.spots b.period _ b.clock.0 (omega (arith, c.if-words-places.false, c.places.ensures)) in
@@ -15,10 +15,10 @@ start-at-best-requires c =
 
 pub loop-pursuer-init : goal.loop-pursuer-init
 loop-pursuer-init c =
-    first_start _ _ _ c.start-at-best.ensures
+    first_start _ _ _ c.start_at-best.ensures
 
-pub start-at-next-requires : goal.start-at-next-requires
-start-at-next-requires c =
+pub start_at-next-requires : goal.start_at-next-requires
+start_at-next-requires c =
     let b = c.args.board.now in
     let n = c.spots-spots.ensures in
     let fit = rows_fit b.spots b.period _ b.clock.0 (omega (arith, c.if-words-places.false, c.places.ensures)) in
@@ -27,7 +27,7 @@ start-at-next-requires c =
 pub loop-pursuer-preserved : goal.loop-pursuer-preserved
 loop-pursuer-preserved c =
     let n : ℕ = c.spots-spots.result in
-    let told = c.start-at-next.ensures in
+    let told = c.start_at-next.ensures in
     elim c.if-next-best.branch [
       | then-next-best w ↦ subst (λ (o : Opening). OpensAmong (c.loop-pursuer.pursuer + 1) n c.words-words.result.now o) (sym w.best-is) (next_start _ _ _ _ _ c.loop-pursuer.invariant told w.if-next-best.true)
       | else-next-best w ↦ subst (λ (o : Opening). OpensAmong (c.loop-pursuer.pursuer + 1) n c.words-words.result.now o) (sym w.best-is) (same_start _ _ _ _ _ c.loop-pursuer.invariant told w.if-next-best.false)

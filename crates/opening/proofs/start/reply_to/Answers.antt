@@ -2,8 +2,8 @@ use Rattle.std.proofs.Common.{arith}
 use Rattle.opening.proofs.Parts.{rows_fit}
 use Rattle.opening.proofs.start.reply_to.Goals as goal
 
-pub start-at-requires : goal.start-at-requires
-start-at-requires c =
+pub start_at-requires : goal.start_at-requires
+start_at-requires c =
     let b = c.args.board.now in
     let n = c.spots-spots.ensures in
     let fit = rows_fit b.spots b.period _ b.clock.0 (omega (arith, c.if-words-places.false, c.places.ensures)) in
