@@ -1,5 +1,5 @@
 -- What an answer tells of the game.
-use Rattle.std.proofs.Common.{◌≡◌, ℕ, ◌<◌, Some, Option, unwrap_or, arith}
+use Rattle.std.proofs.Common.{◌≡◌, ℕ, ◌<◌, Some, unwrap_or, arith}
 use Rattle.std.proofs.lemmas.Bool.Decides.{nat_tests}
 use Rattle.arena.specs.declared.player.Player.{Player}
 use Rattle.arena.specs.Game.{Game, degree, move}

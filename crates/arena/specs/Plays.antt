@@ -1,5 +1,5 @@
 -- Plays, strategies that see the whole play, and what it is to force a capture.
-use Rattle.std.specs.Prelude.{◌≡◌, ℕ, ◌<◌, Bool, true, false, ◌⊎◌, List, [], ◌∷◌, length}
+use Rattle.std.specs.Prelude.{◌≡◌, ℕ, ◌<◌, false, ◌⊎◌, List, [], ◌∷◌, length}
 use Rattle.arena.specs.declared.player.Player.{Player}
 use Rattle.arena.specs.declared.player.Player.TheVariants.{Pursuer}
 use Rattle.arena.specs.Game.{Rules, degree, move, Step, caught}

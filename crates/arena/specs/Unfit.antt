@@ -1,5 +1,5 @@
 -- When an arena and a table of so many words fit, and why they do not.
-use Rattle.std.specs.Prelude.{◌≡◌, ℕ, ◌*◌, ◌<◌, List, [], ◌∷◌, Some, ◌≢◌}
+use Rattle.std.specs.Prelude.{◌≡◌, ℕ, ◌*◌, List, [], ◌∷◌, Some, ◌≢◌}
 use Rattle.arena.specs.Game.{Game}
 use Rattle.arena.specs.Sound.{Sized, PlacesSound, FirstUnsound}
 use Rattle.arena.specs.declared.unfit.Unfit.{Unfit}

@@ -1,4 +1,4 @@
-use Rattle.std.proofs.Common.{◌≡◌, ℕ, ◌<◌, ◌≤◌, List, length, get_or, refl, ap, arith}
+use Rattle.std.proofs.Common.{◌≡◌, ℕ, ◌<◌, List, refl, ap, arith}
 use Rattle.arena.specs.Listed.{LawfulRows, Cause}
 use Rattle.arena.specs.declared.listing_refusal.ListingRefusal.{ListingRefusal}
 use Rattle.arena.specs.declared.listing_refusal.ListingRefusal.TheVariants.{Kind, Starts}

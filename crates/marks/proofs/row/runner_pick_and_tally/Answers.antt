@@ -4,7 +4,7 @@ use Rattle.marks.proofs.row.runner_pick_and_tally.Goals as goal
 
 pub returns : goal.returns
 returns c =
-    let both = c.fold-both in
+    let both = c.fold_both in
     record {
       picked = runner_picks 0 c.args.row.now both.result.first both.ensures.left;
       tallied = tally_tallies 0 c.args.row.now both.result.second both.ensures.right;
