@@ -2,7 +2,7 @@
 use Rattle.std.proofs.Common.{ℕ, ◌<◌, List, length, ltb→lt, lt→ltb}
 use Rattle.arena.specs.Game.{Game, places}
 use Rattle.arena.specs.TableRules.{TableRules}
-use Rattle.arena.specs.Tables.{marks_of, moves_of, TrueTable, TrueFolded}
+use Rattle.arena.specs.Tables.{marks_of, moves_of, TrueTable}
 use Rattle.arena.specs.Unfit.{Fits}
 use Rattle.theory.proofs.Back.{rules}
 use Rattle.theory.proofs.Below.{counts_below}

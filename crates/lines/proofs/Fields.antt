@@ -2,7 +2,7 @@
 use Rattle.std.proofs.Common.{◌≡◌, ℕ, ◌+◌, ◌<◌, ◌≤◌, List, [], ◌∷◌, ◌++◌, length, get_or, take, drop, sym, refl, ap, ◌∙◌, subst, inl, inr, append_assoc, add-zero, arith, length-append, length-drop, length-take-le, get_or-drop, get_or-take}
 use Rattle.std.proofs.ByRecursion.{All-get_or, All-from_get_or}
 use Rattle.std.proofs.lemmas.List.{take_more}
-use Rattle.std.specs.List.{AllByRecursion as All}
+use Rattle.std.specs.List.{AllByRecursion}
 use Rattle.lines.specs.declared.kind.Kind.{Kind}
 use Rattle.lines.specs.declared.kind.Kind.TheVariants.{Number, Pattern}
 use Rattle.lines.specs.Grammar.{Byte, most, Plain, FieldOf, Forms, spaced}
@@ -23,11 +23,11 @@ compare (b ∷ f) x (c ∷ g) r e =
     let t : f ++ x ≡ g ++ r = cc in
     elim (compare f x g r t) [ same p q ↦ same (cc) q | longer d u p q ↦ longer d u (cc) q | shorter d u p q ↦ shorter d u (cc) q ]
 
-all_front : (P : ℕ → Type 0) (f : List ℕ) (b : ℕ) (u : List ℕ) → All P (f ++ (b ∷ u)) → All P (f ++ (b ∷ []))
+all_front : (P : ℕ → Type 0) (f : List ℕ) (b : ℕ) (u : List ℕ) → AllByRecursion P (f ++ (b ∷ u)) → AllByRecursion P (f ++ (b ∷ []))
 all_front P [] b u h = (h.0, tt)
 all_front P (c ∷ f) b u h = (h.0, all_front P f b u h.1)
 
-all_at : (P : ℕ → Type 0) (f : List ℕ) (b : ℕ) (u : List ℕ) → All P (f ++ (b ∷ u)) → P b
+all_at : (P : ℕ → Type 0) (f : List ℕ) (b : ℕ) (u : List ℕ) → AllByRecursion P (f ++ (b ∷ u)) → P b
 all_at P [] b u h = h.0
 all_at P (c ∷ f) b u h = all_at P f b u h.1
 
@@ -104,12 +104,12 @@ spaced_once (a ∷ ks) (f ∷ fs) (g ∷ gs) x y h k e =
     let rest = spaced_once ks fs gs x y h.1 k.1 once.1 in
     (cc (once.0, rest.0), rest.1)
 
-run_all : (k : Kind) (limit : ℕ) (body : List ℕ) (n : ℕ) → Run k limit body n → All (Byte k) (take n body)
+run_all : (k : Kind) (limit : ℕ) (body : List ℕ) (n : ℕ) → Run k limit body n → AllByRecursion (Byte k) (take n body)
 run_all k limit body n r =
     let long = length-take-le n body r.within in
     All-from_get_or (Byte k) (take n body) 0 (λ i h. subst (Byte k) (sym (get_or-take n body i 0 (omega arith))) (r.all i (omega arith)))
 
-next_in : (k : Kind) (body : List ℕ) (n : ℕ) → n < length body → All (Byte k) (take (n + 1) body) → Byte k (get_or body n 0)
+next_in : (k : Kind) (body : List ℕ) (n : ℕ) → n < length body → AllByRecursion (Byte k) (take (n + 1) body) → Byte k (get_or body n 0)
 next_in k body n h all =
     let long = length-take-le (n + 1) body (omega arith) in
     subst (Byte k) (get_or-take (n + 1) body n 0 (omega arith)) (All-get_or (Byte k) (take (n + 1) body) n 0 (omega arith) all)

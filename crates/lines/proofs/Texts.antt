@@ -1,8 +1,8 @@
 -- Lines: what their marks and fields give.
 use Rattle.std.proofs.Common.{◌≡◌, ℕ, ◌+◌, ◌-◌, ◌<◌, ◌≤◌, List, [], ◌∷◌, ◌++◌, length, get_or, take, drop, IfOk, Ok, Err, Result, sym, refl, ap, ◌∙◌, subst, append_assoc, arith, length-append, take-append-drop, length-take-le}
-use lib.Seq.{take-append_seam}
+use Rattle.std.proofs.Math.Seq.{take-append_seam}
 use Rattle.std.proofs.lemmas.List.{drop_more, take_rest}
-use Rattle.std.specs.List.{AllByRecursion as All}
+use Rattle.std.specs.List.{AllByRecursion}
 use Rattle.lines.specs.declared.field.Taken.{Taken}
 use Rattle.lines.specs.declared.kind.Kind.{Kind}
 use Rattle.lines.specs.declared.line.Found.{Found}
@@ -77,7 +77,7 @@ found_line m at l after r t marked h front here =
     }
 
 -- the fields of a line are parts of the sheet
-fields_parts : (fs : List Part) (sheet before after : List ℕ) (at : ℕ) → sheet ≡ before ++ (spaced (shown fs) ++ after) → at ≡ length before → Laid at fs → All (PartOf sheet) fs
+fields_parts : (fs : List Part) (sheet before after : List ℕ) (at : ℕ) → sheet ≡ before ++ (spaced (shown fs) ++ after) → at ≡ length before → Laid at fs → AllByRecursion (PartOf sheet) fs
 fields_parts [] sheet before after at e here h = tt
 fields_parts (f ∷ fs) sheet before after at e here h =
     let bytes = f.bytes.now in
@@ -89,7 +89,7 @@ fields_parts (f ∷ fs) sheet before after at e here h =
     )
 
 -- and so is its whole text
-pub answer_parts : (sheet : List ℕ) (at : ℕ) (r : Result Read Refusal) → Answers (start sheet at) (ahead sheet at) r → IfOk r (λ x. All (PartOf sheet) (x.text ∷ fields x.line))
+pub answer_parts : (sheet : List ℕ) (at : ℕ) (r : Result Read Refusal) → Answers (start sheet at) (ahead sheet at) r → IfOk r (λ x. AllByRecursion (PartOf sheet) (x.text ∷ fields x.line))
 answer_parts sheet at (Err why) h = tt
 answer_parts sheet at (Ok x) h =
     let e = entry_of x.line in

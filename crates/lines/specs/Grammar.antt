@@ -1,6 +1,6 @@
 -- What a line of a sheet is, and where a text stops being the front of one.
 use Rattle.std.specs.Prelude.{◌≡◌, ℕ, ◌+◌, ◌<◌, ◌≤◌, ◌⊎◌, List, [], ◌∷◌, ◌++◌, length, ◌≢◌, slice_index}
-use Rattle.std.specs.List.{AllByRecursion as All}
+use Rattle.std.specs.List.{AllByRecursion}
 use Rattle.lines.specs.declared.line.Mark.{Mark}
 use Rattle.lines.specs.declared.line.Mark.TheVariants.{Board, Gate, Trap, End}
 use Rattle.lines.specs.declared.kind.Kind.{Kind}
@@ -25,7 +25,7 @@ Plain Pattern f = Unit {0}
 pub record FieldOf (k : Kind) (f : List ℕ) : Type 0 where
   pub some : 0 < length f
   pub short : length f ≤ most k
-  pub bytes : All (Byte k) f
+  pub bytes : AllByRecursion (Byte k) f
   pub plain : Plain k f
 
 -- each text is a field of its kind

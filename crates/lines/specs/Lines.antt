@@ -1,6 +1,6 @@
 -- What the line reader answers.
 use Rattle.std.specs.Prelude.{◌≡◌, ℕ, ◌+◌, min, List, [], ◌∷◌, ◌++◌, length, drop, IfOk, Result, MatchResult}
-use Rattle.std.specs.List.{AllByRecursion as All}
+use Rattle.std.specs.List.{AllByRecursion}
 use Rattle.lines.specs.declared.line.Line.{Line}
 use Rattle.lines.specs.declared.line.Line.TheVariants.{Board, Gate, Trap, End}
 use Rattle.lines.specs.declared.line.Mark.{Mark}
@@ -98,6 +98,6 @@ pub record PartOf (sheet : List ℕ) (p : Part) : Type 0 where
 -- the answer is right, what it holds are parts of the sheet, and no other is right: what begins with a line is read as that line, and a refusal is the only one
 pub record Reads (sheet : List ℕ) (at : ℕ) (r : Result Read Refusal) : Type 0 where
   pub right : Answers (start sheet at) (ahead sheet at) r
-  pub parts : IfOk r (λ x. All (PartOf sheet) (x.text ∷ fields x.line))
+  pub parts : IfOk r (λ x. AllByRecursion (PartOf sheet) (x.text ∷ fields x.line))
   pub line : (e : Entry) (after : List ℕ) → Formed e → ahead sheet at ≡ line_bytes e ++ after → MatchResult r (λ x. entry_of x.line ≡ e) (λ _. ⊥)
   pub refusal : (t : Told) → Declined (start sheet at) (ahead sheet at) t → MatchResult r (λ _. ⊥) (λ why. told why ≡ t)

@@ -1,5 +1,5 @@
 -- What a pick from the row that is seen from a place says of the place.
-use Rattle.std.proofs.Common.{◌≡◌, ℕ, zero, suc, ◌+◌, ◌<◌, ◌≤◌, min, ◌⊎◌, List, [], ◌∷◌, map, length, get_or, sym, refl, ap, ◌∙◌, subst, inl, inr, arith}
+use Rattle.std.proofs.Common.{◌≡◌, ℕ, ◌<◌, ◌≤◌, min, List, length, get_or, sym, refl, ap, ◌∙◌, subst, inl, inr, arith}
 use lib.ListN.{length-map}
 use Rattle.std.proofs.lemmas.List.{get_or-map}
 use Rattle.arena.specs.declared.player.Player.{Player}
@@ -9,7 +9,6 @@ use Rattle.theory.proofs.Plays.{sides, not_both}
 use Rattle.marks.specs.Marks.{none}
 use Rattle.marks.specs.Picks.{NoWorse, FirstBest, Picked}
 use Rattle.marks.specs.declared.pick.Order.{Order}
-use Rattle.marks.specs.declared.pick.Order.TheVariants.{Least, Greatest}
 use Rattle.marks.specs.declared.pick.Pick.TheVariants.{Nothing, At}
 use Rattle.marks.proofs.Picks.{picked_index}
 use Rattle.rounds.specs.Scans.{seen_row}

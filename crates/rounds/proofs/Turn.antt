@@ -1,10 +1,10 @@
 -- One round over the places, in place: what is written in the same round is not seen.
-use Rattle.std.proofs.Common.{◌≡◌, ℕ, ◌+◌, ◌*◌, ◌<◌, ◌≤◌, min, ◌⊎◌, List, length, set, sym, refl, ap, ◌∙◌, subst, inl, inr, add-one, arith}
+use Rattle.std.proofs.Common.{◌≡◌, ℕ, ◌+◌, ◌*◌, ◌<◌, ◌≤◌, min, List, length, set, sym, refl, ◌∙◌, subst, inl, inr, add-one, arith}
 use native.Mathlib.Decide.{dec_lt}
 use Rattle.arena.specs.Game.{Game, degree}
 use Rattle.arena.specs.Sound.{PlacesSound}
 use Rattle.marks.specs.Marks.{blank}
-use Rattle.rounds.specs.Words.{marks_of, moves_of, Best, Ready, RoundWords, FinishWords, blanks, looks_of}
+use Rattle.rounds.specs.Words.{marks_of, Best, Ready, RoundWords, FinishWords, blanks, looks_of}
 use Rattle.rounds.proofs.Positions.{Alike, best_same, ready_same, best_plain}
 use Rattle.rounds.proofs.Sweep.{Sweep, sweep_start, sweep_keep, sweep_set, two_sets, two_first}
 use Rattle.rounds.proofs.Counts.{weight_blank, weight_other, blanks_same}

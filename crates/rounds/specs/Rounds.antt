@@ -1,5 +1,5 @@
 -- What one round does.
-use Rattle.std.specs.Prelude.{◌≡◌, ℕ, ◌+◌, ◌*◌, ◌≤◌, List}
+use Rattle.std.specs.Prelude.{◌≡◌, ℕ, ◌+◌, List}
 use Rattle.arena.specs.Game.{Game}
 use Rattle.rounds.specs.declared.made.Made.{Made}
 use Rattle.rounds.specs.Words.{Rounded, blanks, looks_of}

@@ -1,5 +1,5 @@
 -- The words of a table, a mark and a move word for each place, and what a begin, a round, a finish and an abandoning make of them.
-use Rattle.std.specs.Prelude.{◌≡◌, ℕ, zero, suc, ◌+◌, ◌-◌, ◌/◌, ◌<◌, ◌≤◌, min, Bool, cond, ◌⊎◌, List, ◌++◌, length, replicate, ◌==◌, ◌≢◌, nat_lt}
+use Rattle.std.specs.Prelude.{◌≡◌, ℕ, zero, suc, ◌+◌, ◌-◌, ◌/◌, ◌<◌, cond, ◌⊎◌, List, ◌++◌, replicate, ◌==◌, ◌≢◌, nat_lt}
 use Rattle.arena.specs.declared.player.Player.{Player}
 use Rattle.arena.specs.declared.player.Player.TheVariants.{Pursuer, Runner}
 use Rattle.arena.specs.Game.{Game, Rules, degree, move}

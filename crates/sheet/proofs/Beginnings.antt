@@ -1,6 +1,6 @@
 -- Beginnings of a sheet: how one line more goes on with them.
 use Rattle.std.proofs.Common.{◌≡◌, ℕ, ◌+◌, ◌-◌, ◌<◌, ◌≤◌, List, [], ◌∷◌, ◌++◌, length, drop, Some, None, Ok, Err, Option, Result, sym, refl, ap, ◌∙◌, subst, inl, inr, append_assoc, append-nil, arith, length-append}
-use lib.Seq.{drop-append_seam}
+use Rattle.std.proofs.Math.Seq.{drop-append_seam}
 use Rattle.lines.specs.declared.line.Line.{Line}
 use Rattle.lines.specs.declared.line.Line.TheVariants.{Board, Gate, Trap, End}
 use Rattle.lines.specs.declared.line.Read.{Read}
@@ -20,10 +20,10 @@ use Rattle.sheet.specs.declared.sheet.Sheet.{Sheet}
 use Rattle.sheet.specs.Parts.{Begun, Stopped, TurnedDown, Ended}
 use Rattle.sheet.specs.Readings.{Explains, Right}
 use Rattle.sheet.specs.Refusals.{board_rule}
-use Rattle.sheet.specs.Rules.{Within, breaches, Clean, First, Goes_on, Lawful, Fault, unlawful, BrokenAt}
+use Rattle.sheet.specs.Rules.{Within, breaches, Clean, First, GoesOn, Lawful, Fault, unlawful, BrokenAt}
 use Rattle.sheet.specs.Says.{Held, added, after, written}
 
-lawful_push : (s : Option Held) (es : List Entry) (e : Entry) → Lawful s es → Goes_on e → Formed e → Clean (breaches (after s es) e []) → Lawful s (es ++ (e ∷ []))
+lawful_push : (s : Option Held) (es : List Entry) (e : Entry) → Lawful s es → GoesOn e → Formed e → Clean (breaches (after s es) e []) → Lawful s (es ++ (e ∷ []))
 lawful_push s [] e h on formed clean = (on, formed, clean, tt)
 lawful_push s (d ∷ es) e h on formed clean = (h.0, h.1, h.2, lawful_push (added s d) es e h.3 on formed clean)
 
@@ -62,7 +62,7 @@ fronts : (text : List ℕ) (at : ℕ) (s : Option Held) (x : Read) (b : Begun te
 fronts text at s x b h = sym (rest_is text at s b) ∙ h.parts
 
 -- one line more
-pub begun_more : (text : List ℕ) (at : ℕ) (s s' : Option Held) (x : Read) → Begun text at s → LineAt at (drop at text) x → Goes_on (entry_of x.line) → Clean (breaches s (entry_of x.line) []) → s' ≡ added s (entry_of x.line) → Begun text x.next s'
+pub begun_more : (text : List ℕ) (at : ℕ) (s s' : Option Held) (x : Read) → Begun text at s → LineAt at (drop at text) x → GoesOn (entry_of x.line) → Clean (breaches s (entry_of x.line) []) → s' ≡ added s (entry_of x.line) → Begun text x.next s'
 begun_more text at s s' x b h on clean is =
     let e = entry_of x.line in
     record {
@@ -84,7 +84,7 @@ pub breaks : (text : List ℕ) (at : ℕ) (s : Option Held) (x : Read) (t : Told
 breaks text at s x t b h f = broken text at s t b (unlawful (entry_of x.line) h.after h.formed h.parts f)
 
 -- a line that is not taken
-pub turned_down : (text : List ℕ) (at : ℕ) (s : Held) (x : Read) (o : Option Told) → Begun text at (Some s) → LineAt at (drop at text) x → Goes_on (entry_of x.line) → TurnedDown s at (entry_of x.line) o → Explains text o
+pub turned_down : (text : List ℕ) (at : ℕ) (s : Held) (x : Read) (o : Option Told) → Begun text at (Some s) → LineAt at (drop at text) x → GoesOn (entry_of x.line) → TurnedDown s at (entry_of x.line) o → Explains text o
 turned_down text at s x (Some t) b h on f = breaks text at (Some s) x t b h (any_more (λ table. First at table t) (Some s) (entry_of x.line) h.after on f)
 turned_down text at s x None b h on f = record {
   lines = b.lines;
@@ -130,7 +130,7 @@ closed text at s x (Err why) b h last e =
       | inr p ↦ subst (Explains text) (sym p.2) (fault _ (inr (λ some. omega (arith, p.0), inl (p.1, ap (board_rule 10) three))))
     ]
 
-pub goes_on : (x : Line) → (x ≡ End → ⊥) → Goes_on (entry_of x)
+pub goes_on : (x : Line) → (x ≡ End → ⊥) → GoesOn (entry_of x)
 goes_on (Board n) h = tt
 goes_on (Gate u v p) h = tt
 goes_on (Trap v) h = tt
@@ -163,4 +163,4 @@ begun_first text x n s h is spots gates traps lawful =
     let e : entry_of x.line ≡ board n.bytes.now = ap entry_of is in
     let same : s.spots ≡ decimal n.bytes.now = spots (subst Formed e h.formed).0 in
     let says : Some s ≡ added None (board n.bytes.now) = λ i. Some (record { spots = same i; gates = gates i; traps = traps i }) in
-    begun_more text 0 None (Some s) x (begun_none text) h (subst Goes_on (sym e) tt) (subst (λ d. Clean (breaches None d [])) (sym e) (λ bad. bad (subst LawfulSpots same lawful), tt)) (says ∙ ap (added None) (sym e))
+    begun_more text 0 None (Some s) x (begun_none text) h (subst GoesOn (sym e) tt) (subst (λ d. Clean (breaches None d [])) (sym e) (λ bad. bad (subst LawfulSpots same lawful), tt)) (says ∙ ap (added None) (sym e))

@@ -1,9 +1,9 @@
 -- Gates and traps: what their lines and the draft of a board say of each other.
-use Rattle.std.proofs.Common.{◌≡◌, ℕ, ◌+◌, ◌<◌, true, false, ◌&&◌, eqb, ◌⊎◌, List, [], ◌∷◌, ◌++◌, length, get_or, Some, Decides, sym, refl, ap, ◌∙◌, subst, inl, inr, add-zero, arith}
+use Rattle.std.proofs.Common.{◌≡◌, ℕ, ◌<◌, false, ◌&&◌, eqb, ◌⊎◌, List, [], ◌∷◌, ◌++◌, length, get_or, Some, Decides, sym, refl, ap, ◌∙◌, subst, inl, inr, add-zero, arith}
 use Rattle.std.proofs.ByRecursion.{All-get_or, All-from_get_or}
 use Rattle.std.proofs.lemmas.Bool.{both_ways, eq-eqb, false≢true}
 use Rattle.std.proofs.lemmas.Bool.Decides.{Decides-eqb, Decides-and, Decides-or, not_from_Decides}
-use Rattle.std.specs.List.{AllWithin, AllByRecursion as All}
+use Rattle.std.specs.List.{AllWithin, AllByRecursion}
 use Rattle.board.proofs.SetBits.{within_below}
 use Rattle.board.specs.declared.draft.refusal.GateRefusal.{GateRefusal}
 use Rattle.board.specs.declared.draft.refusal.GateRefusal.TheVariants.{OffBoard, EqualEnds, RepeatedPair, TooMany, NoMemory}
@@ -12,12 +12,12 @@ use Rattle.board.specs.declared.pattern.refusal.PatternRefusal.{PatternRefusal}
 use Rattle.board.specs.declared.pattern.refusal.PatternRefusal.TheVariants.{Length, BitPastLength, NoBit}
 use Rattle.board.specs.GateRefused.{Fits, Cause}
 use Rattle.board.specs.Gates.{same_pair, repeats}
-use Rattle.board.specs.PatternRefused.{Cause as Pattern-cause}
-use Rattle.board.specs.Patterns.{bit, Lawful as Lawful-pattern}
+use Rattle.board.specs.PatternRefused.{Cause as PatternCause}
+use Rattle.board.specs.Patterns.{bit, Lawful as LawfulPattern}
 use Rattle.lines.specs.declared.kind.Kind.TheVariants.{Pattern}
 use Rattle.lines.specs.Grammar.{Byte, FieldOf}
 use Rattle.lines.specs.Lines.{gate, trap}
-use Rattle.lines.specs.Values.{decimal, bits, bit as character-bit, Stepped}
+use Rattle.lines.specs.Values.{decimal, bits, bit as character_bit, Stepped}
 use Rattle.sheet.specs.Parts.{gate_refusal, TurnedDown}
 use Rattle.sheet.specs.Refusals.{board_rule, told}
 use Rattle.sheet.specs.Rules.{Joined, breaches, Clean}
@@ -42,15 +42,15 @@ decides_joined g (h ∷ gs) =
     (decides_joined g gs)
 
 -- characters that are all 0 set no bit
-shut_none : (p : List ℕ) → All (λ b. b ≡ 48) p → bits p ≡ 0
+shut_none : (p : List ℕ) → AllByRecursion (λ b. b ≡ 48) p → bits p ≡ 0
 shut_none [] h = refl
-shut_none (b ∷ p) h = omega (arith, ap character-bit h.0, shut_none p h.1)
+shut_none (b ∷ p) h = omega (arith, ap character_bit h.0, shut_none p h.1)
 
 only_shut : (b : ℕ) → Byte Pattern b → (b ≡ 49 → ⊥) → b ≡ 48
 only_shut b h k = elim h [ inl e ↦ e | inr e ↦ absurd (k e) ]
 
 -- a pattern's field makes no pattern only where all its characters are 0
-pub pattern_shut : (p : List ℕ) (r : ℕ) (why : PatternRefusal) → FieldOf Pattern p → Stepped p r → Pattern-cause r (length p) why → All (λ b. b ≡ 48) p
+pub pattern_shut : (p : List ℕ) (r : ℕ) (why : PatternRefusal) → FieldOf Pattern p → Stepped p r → PatternCause r (length p) why → AllByRecursion (λ b. b ≡ 48) p
 pattern_shut p r Length field steps h = absurd (h (field.some, field.short))
 pattern_shut p r BitPastLength field steps h = absurd (both_ways (bit r h.1.0) (within_below r (length p) steps.below h.1.0 h.1.1) h.1.2)
 pattern_shut p r NoBit field steps h =
@@ -58,7 +58,7 @@ pattern_shut p r NoBit field steps h =
     only_shut (get_or p i 0) (All-get_or (Byte Pattern) p i 0 lt field.bytes) (λ e.
     both_ways (bit r i) (h.2 i) (eq-eqb _ 1 (steps.opens i (omega (arith, field.short)) lt e))))
 
-pub pattern_opens : (p : List ℕ) (r : ℕ) → r ≡ bits p → Lawful-pattern r (length p) → All (λ b. b ≡ 48) p → ⊥
+pub pattern_opens : (p : List ℕ) (r : ℕ) → r ≡ bits p → LawfulPattern r (length p) → AllByRecursion (λ b. b ≡ 48) p → ⊥
 pattern_opens p r e h shut =
     let zero : r ≡ 0 = e ∙ shut_none p shut in
     h.2 (λ i. within_below r 0 (omega arith) i (omega arith))
@@ -76,12 +76,12 @@ not_joined g gs a b from to ends new h =
     elim h [ inl e ↦ ends (from ∙ e ∙ sym to) | inr j ↦ not_from_Decides (repeats g gs) (joined_by g gs a b from to) new j ]
 
 -- a gate that fits breaks no rule
-pub fits_clean : (n : ℕ) (gs : List Gate) (ts : List ℕ) (g : Gate) (u v p : List ℕ) → g.from ≡ decimal u → g.to ≡ decimal v → (All (λ b. b ≡ 48) p → ⊥) → Fits n gs g → Clean (breaches (Some (record { spots = n; gates = rows gs; traps = ts })) (gate u v p) [])
+pub fits_clean : (n : ℕ) (gs : List Gate) (ts : List ℕ) (g : Gate) (u v p : List ℕ) → g.from ≡ decimal u → g.to ≡ decimal v → (AllByRecursion (λ b. b ≡ 48) p → ⊥) → Fits n gs g → Clean (breaches (Some (record { spots = n; gates = rows gs; traps = ts })) (gate u v p) [])
 fits_clean n gs ts g u v p from to opens fits =
     (λ h. omega (arith, fits.0.0), (λ h. omega (arith, fits.0.1), (opens, (not_joined g gs (decimal u) (decimal v) from to fits.1 fits.2, (λ h. omega (arith, fits.3, length_rows gs), tt)))))
 
 -- why a draft refuses a gate is the first rule that its line breaks
-pub cause_told : (n : ℕ) (gs : List Gate) (ts : List ℕ) (g : Gate) (u v p : List ℕ) (at : ℕ) (why : GateRefusal) → g.from ≡ decimal u → g.to ≡ decimal v → decimal u < n → decimal v < n → (All (λ b. b ≡ 48) p → ⊥) → Cause n gs g why → TurnedDown (record { spots = n; gates = rows gs; traps = ts }) at (gate u v p) (told (gate_refusal why at))
+pub cause_told : (n : ℕ) (gs : List Gate) (ts : List ℕ) (g : Gate) (u v p : List ℕ) (at : ℕ) (why : GateRefusal) → g.from ≡ decimal u → g.to ≡ decimal v → decimal u < n → decimal v < n → (AllByRecursion (λ b. b ≡ 48) p → ⊥) → Cause n gs g why → TurnedDown (record { spots = n; gates = rows gs; traps = ts }) at (gate u v p) (told (gate_refusal why at))
 cause_told n gs ts g u v p at OffBoard from to a b opens h = absurd (h (omega arith, omega arith))
 cause_told n gs ts g u v p at EqualEnds from to a b opens h =
     inr (λ k. omega arith, inr (λ k. omega arith, inr (opens, inl (inl (sym from ∙ h.1 ∙ to), ap (board_rule 8) (sym (add-zero at))))))
@@ -92,6 +92,6 @@ cause_told n gs ts g u v p at TooMany from to a b opens h =
 cause_told n gs ts g u v p at NoMemory from to a b opens h = (fits_clean n gs ts g u v p from to opens h, tt)
 
 -- a trap on a spot that has none breaks no rule
-pub trap_clean : (n : ℕ) (rs : List Row) (ts : List ℕ) (v : List ℕ) (w : ℕ) → w ≡ decimal v → w < n → AllWithin (λ x. Decides false (x ≡ w)) ts 0 (length ts) → Clean (breaches (Some (record { spots = n; gates = rs; traps = ts })) (trap v) [])
+pub trap_clean : (n : ℕ) (rs : List Row) (ts : List ℕ) (v : List ℕ) (w : ℕ) → w ≡ decimal v → w < n → AllWithin (λ x. eqb x w ≡ false) ts 0 (length ts) → Clean (breaches (Some (record { spots = n; gates = rs; traps = ts })) (trap v) [])
 trap_clean n rs ts v w is below new =
-    (λ h. omega arith, (λ has. false≢true ((new has.0 0 (omega arith) has.1).1 (has.2 0 ∙ sym is)), tt))
+    (λ h. omega arith, (λ has. false≢true (sym (new has.0 0 (omega arith) has.1) ∙ eq-eqb (get_or ts has.0 0) w (has.2 0 ∙ sym is)), tt))

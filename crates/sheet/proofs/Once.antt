@@ -1,5 +1,5 @@
 -- A text is one sheet, or broken in one way, and not both.
-use Rattle.std.proofs.Common.{◌≡◌, ℕ, ◌+◌, ◌⊎◌, List, [], ◌∷◌, ◌++◌, length, Some, None, Ok, Err, Option, Result, sym, refl, ap, ◌∙◌, subst, inl, inr, append_assoc, arith}
+use Rattle.std.proofs.Common.{◌≡◌, ℕ, ◌⊎◌, List, [], ◌∷◌, ◌++◌, length, Some, None, Ok, Err, Option, Result, sym, refl, ap, ◌∙◌, subst, inl, inr, append_assoc, arith}
 use Rattle.lines.proofs.Once.{line_once, apart, declined_once}
 use Rattle.lines.specs.declared.refusal.Told.{Told}
 use Rattle.lines.specs.Lines.{Entry, end, Formed, line_bytes}
@@ -9,15 +9,15 @@ use Rattle.sheet.specs.declared.refusal.Refusal.{Refusal}
 use Rattle.sheet.specs.declared.sheet.Sheet.{Sheet}
 use Rattle.sheet.specs.Readings.{Explains, Right, Reads}
 use Rattle.sheet.specs.Refusals.{told}
-use Rattle.sheet.specs.Rules.{Within, breaches, Clean, First, Goes_on, Lawful, Writes, Fault, nothing, unread, unlawful, BrokenAt}
+use Rattle.sheet.specs.Rules.{Within, breaches, Clean, First, GoesOn, Lawful, Writes, Fault, nothing, unread, unlawful, BrokenAt}
 use Rattle.sheet.specs.Says.{Held, added, after, written, kept}
 
 -- no lawful line goes on from here
 abbrev Stops : Option Held → List ℕ → Type 0
-Stops s x = (e : Entry) (more : List ℕ) → x ≡ line_bytes e ++ more → Goes_on e → Formed e → Clean (breaches s e []) → ⊥
+Stops s x = (e : Entry) (more : List ℕ) → x ≡ line_bytes e ++ more → GoesOn e → Formed e → Clean (breaches s e []) → ⊥
 
 end_stops : (s : Option Held) (x more : List ℕ) → x ≡ line_bytes end ++ more → Stops s x
-end_stops s x more p e rest q on formed clean = subst Goes_on (line_once e end rest more formed tt (sym q ∙ p)).0 on
+end_stops s x more p e rest q on formed clean = subst GoesOn (line_once e end rest more formed tt (sym q ∙ p)).0 on
 
 fault_stops : (s : Option Held) (at : ℕ) (x : List ℕ) (t : Told) → Fault s at x t → Stops s x
 fault_stops s at x t (nothing p is) e more q on formed clean = let z : ◌≡◌ {A = ℕ} 0 1 = cc in omega arith
@@ -33,10 +33,10 @@ run_once s [] (d ∷ hs) x y h k p q e = absurd (p d (written hs ++ y) (e ∙ ap
 run_once s (d ∷ gs) [] x y h k p q e = absurd (q d (written gs ++ x) (sym e ∙ append_assoc (line_bytes d) (written gs) x) h.0 h.1 h.2)
 run_once s (d ∷ gs) (c ∷ hs) x y h k p q e =
     let cut = sym (append_assoc (line_bytes d) (written gs) x) ∙ e ∙ append_assoc (line_bytes c) (written hs) y in
-    let first-line = line_once d c (written gs ++ x) (written hs ++ y) h.1 k.1 cut in
-    let is = sym first-line.0 in
-    let rest = run_once (added s d) gs hs x y h.3 (subst (λ c. Lawful (added s c) hs) is k.3) p (subst (λ c. Stops (after (added s c) hs) y) is q) first-line.1 in
-    (cc (first-line.0, rest.0), rest.1)
+    let first_line = line_once d c (written gs ++ x) (written hs ++ y) h.1 k.1 cut in
+    let is = sym first_line.0 in
+    let rest = run_once (added s d) gs hs x y h.3 (subst (λ c. Lawful (added s c) hs) is k.3) p (subst (λ c. Stops (after (added s c) hs) y) is q) first_line.1 in
+    (cc (first_line.0, rest.0), rest.1)
 
 -- a text is one sheet
 pub writes_once : (text : List ℕ) (s t : Held) → Writes text s → Writes text t → s ≡ t

@@ -3,7 +3,7 @@ use Rattle.std.proofs.Common.{◌≡◌, ℕ, List, [], Some, None, Option, sym,
 use Rattle.lines.specs.declared.refusal.Told.{Told}
 use Rattle.lines.specs.Lines.{Entry, board, gate, trap, end}
 use Rattle.sheet.specs.Says.{Held}
-use Rattle.sheet.specs.Rules.{Breaches, none, breach, breaches, Clean, First, Goes_on}
+use Rattle.sheet.specs.Rules.{Breaches, none, breach, breaches, Clean, First, GoesOn}
 
 -- a table has one first breach
 pub first_once : (at : ℕ) (b : Breaches) (t u : Told) → First at b t → First at b u → t ≡ u
@@ -20,7 +20,7 @@ first_clean at none t h c = h
 first_clean at (breach n l place P more) t h c = elim h [ inl x ↦ c.0 x.0 | inr x ↦ first_clean at more t x.1 c.1 ]
 
 -- what follows a line that does not end the sheet breaks no rule of it
-pub any_more : (P : Breaches → Type 0) (s : Option Held) (e : Entry) (more : List ℕ) → Goes_on e → P (breaches s e []) → P (breaches s e more)
+pub any_more : (P : Breaches → Type 0) (s : Option Held) (e : Entry) (more : List ℕ) → GoesOn e → P (breaches s e []) → P (breaches s e more)
 any_more P None (board n) more on h = h
 any_more P None (gate u v p) more on h = h
 any_more P None (trap v) more on h = h

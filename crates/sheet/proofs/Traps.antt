@@ -3,13 +3,13 @@ use Rattle.std.proofs.Common.{ℕ, ◌<◌, List, [], ◌∷◌, ◌++◌, lengt
 use Rattle.std.proofs.ByRecursion.{All-push}
 use Rattle.std.proofs.lemmas.List.{get_or_append_left, get_or_default, get_or_push}
 use Rattle.std.proofs.lemmas.Bool.{cases_lt}
-use Rattle.std.specs.List.{ContainsAt as Has}
+use Rattle.std.specs.List.{ContainsAt}
 use Rattle.lines.specs.Lines.{Entry, board, gate, trap, end}
 use Rattle.lines.specs.Values.{decimal}
 use Rattle.sheet.specs.Rules.{Lawful, Writes, LawfulTraps}
 use Rattle.sheet.specs.Says.{Held, added, after}
 
-traps_push : (n : ℕ) (ts : List ℕ) (w : ℕ) → LawfulTraps n ts → w < n → (Has ts w → ⊥) → LawfulTraps n (ts ++ (w ∷ []))
+traps_push : (n : ℕ) (ts : List ℕ) (w : ℕ) → LawfulTraps n ts → w < n → (ContainsAt ts w → ⊥) → LawfulTraps n (ts ++ (w ∷ []))
 traps_push n ts w h below new =
     let long = length-append ts (w ∷ []) in
     record {

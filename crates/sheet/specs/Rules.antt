@@ -1,6 +1,6 @@
 -- The rules of a sheet, in their order, and the two things that a text can be: a sheet, or broken.
 use Rattle.std.specs.Prelude.{◌≡◌, ℕ, ◌+◌, ◌<◌, ◌≤◌, ◌⊎◌, List, [], ◌∷◌, ◌++◌, length, Some, None, Option, ◌≢◌, slice_index}
-use Rattle.std.specs.List.{ContainsAt as Has, AllByRecursion as All}
+use Rattle.std.specs.List.{ContainsAt, AllByRecursion}
 use Rattle.board.specs.declared.gate.Gate.{Gate}
 use Rattle.board.specs.Clock.{Period}
 use Rattle.board.specs.Gates.{LawfulSpots, places}
@@ -47,13 +47,13 @@ breaches (Some s) (board n) more = breach 6 Board 0 (Unit {0}) none
 breaches (Some s) (gate u v p) more =
     breach 7 Board 3 (s.spots ≤ decimal u)
     (breach 7 Board (4 + length u) (s.spots ≤ decimal v)
-    (breach 3 Pattern (5 + length u + length v) (All (λ b. b ≡ 48) p)
+    (breach 3 Pattern (5 + length u + length v) (AllByRecursion (λ b. b ≡ 48) p)
     (breach 8 Board 0 ((decimal u ≡ decimal v) ⊎ Joined (decimal u) (decimal v) s.gates)
     (breach 9 Board 0 (256 ≤ length s.gates)
     none))))
 breaches (Some s) (trap v) more =
     breach 7 Board 3 (s.spots ≤ decimal v)
-    (breach 8 Board 0 (Has s.traps (decimal v))
+    (breach 8 Board 0 (ContainsAt s.traps (decimal v))
     none)
 breaches (Some s) end more =
     breach 6 Board 3 (0 < length more)
@@ -71,16 +71,16 @@ First at none t = ⊥
 First at (breach n l place P more) t = (P × (t ≡ record { number = n; offset = at + place; layer = l })) ⊎ ((P → ⊥) × First at more t)
 
 -- the line does not end the sheet
-abbrev pub Goes_on : Entry → Type 0
-Goes_on (board n) = Unit {0}
-Goes_on (gate u v p) = Unit {0}
-Goes_on (trap v) = Unit {0}
-Goes_on end = ⊥
+abbrev pub GoesOn : Entry → Type 0
+GoesOn (board n) = Unit {0}
+GoesOn (gate u v p) = Unit {0}
+GoesOn (trap v) = Unit {0}
+GoesOn end = ⊥
 
 -- lines that can follow those that said s: each is in form, breaks no rule after those before it, and does not end the sheet
 abbrev pub Lawful : Option Held → List Entry → Type 0
 Lawful s [] = Unit {0}
-Lawful s (e ∷ es) = Goes_on e × Formed e × Clean (breaches s e []) × Lawful (added s e) es
+Lawful s (e ∷ es) = GoesOn e × Formed e × Clean (breaches s e []) × Lawful (added s e) es
 
 -- the text is a sheet that says s: lawful lines, and the line en
 pub record Writes (text : List ℕ) (s : Held) : Type 0 where
@@ -107,5 +107,5 @@ pub record BrokenAt (text : List ℕ) (t : Told) : Type 0 where
 
 -- a board of n spots may have these traps: each is on a spot, and no two on one
 pub record LawfulTraps (n : ℕ) (ts : List ℕ) : Type 0 where
-  pub spots : All (λ v. v < n) ts
+  pub spots : AllByRecursion (λ v. v < n) ts
   pub once : (i j : ℕ) → i < j → j < length ts → slice_index ts i ≢ slice_index ts j

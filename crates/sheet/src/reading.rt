@@ -1,7 +1,7 @@
 ghost use Rattle.std.specs.Prelude.{◌≡◌, ◌+◌, [], ◌∷◌};
-ghost use Rattle.lines.specs.Lines.{gate as gate-line, trap as trap-line, entry_of, fields, Formed, Laid};
+ghost use Rattle.lines.specs.Lines.{gate as gate_line, trap as trap_line, entry_of, fields, Formed, Laid};
 ghost use Rattle.sheet.specs.Parts.{said, gate_refusal, Takes, Ended};
-ghost use Rattle.sheet.specs.Rules.{Goes_on};
+ghost use Rattle.sheet.specs.Rules.{GoesOn};
 
 use crate::refusal::Refusal;
 use crate::sheet::Sheet;
@@ -34,9 +34,9 @@ fn gate_refusal(why: GateRefusal, at: usize) -> Refusal
 impl Reading {
     // One gate more, by its line at the offset `at`.
     fn add_gate(&mut self, at: usize, u: Part, v: Part, p: Part) -> Result<(), Refusal>
-        requires formed { Formed (gate-line u.bytes.now v.bytes.now p.bytes.now) }
+        requires formed { Formed (gate_line u.bytes.now v.bytes.now p.bytes.now) }
         requires laid { Laid (at + 2) (u ∷ v ∷ p ∷ []) }
-        ensures { Takes (said self.old) at (gate-line u.entry.bytes.now v.entry.bytes.now p.entry.bytes.now) (said self.new) result }
+        ensures { Takes (said self.old) at (gate_line u.entry.bytes.now v.entry.bytes.now p.entry.bytes.now) (said self.new) result }
     {
         let spots = self.draft.spots() as u16;
         let (from, to) = (u.number(), v.number());
@@ -62,9 +62,9 @@ impl Reading {
 
     // One trap more, by its line at the offset `at`.
     fn add_trap(&mut self, at: usize, v: Part) -> Result<(), Refusal>
-        requires formed { Formed (trap-line v.bytes.now) }
+        requires formed { Formed (trap_line v.bytes.now) }
         requires laid { Laid (at + 2) (v ∷ []) }
-        ensures { Takes (said self.old) at (trap-line v.entry.bytes.now) (said self.new) result }
+        ensures { Takes (said self.old) at (trap_line v.entry.bytes.now) (said self.new) result }
     {
         let spot = v.number();
         if spot >= self.draft.spots() as u16 {
@@ -84,7 +84,7 @@ impl Reading {
     pub(crate) fn take(&mut self, at: usize, line: Line) -> Result<(), Refusal>
         requires formed { Formed (entry_of line) }
         requires laid { Laid (at + 2) (fields line) }
-        ensures { Goes_on (entry_of line.entry) → Takes (said self.old) at (entry_of line.entry) (said self.new) result }
+        ensures { GoesOn (entry_of line.entry) → Takes (said self.old) at (entry_of line.entry) (said self.new) result }
     {
         match line {
             Line::Board { .. } => Err(Refusal::Misplaced { offset: at }),

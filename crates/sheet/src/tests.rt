@@ -33,7 +33,7 @@ fn sheets(rt: HostRuntime) -> Result<(), Fail> {
     assert_eq!(rt; sheet.board.spots(), 12);
     assert_eq!(rt; sheet.board.gates().len(), 2);
     assert_eq!(rt; sheet.board.period(), 4);
-    assert_eq!(rt; sheet.traps.as_slice(), &[4, 0]);
+    assert_eq!(rt; sheet.traps.as_slice(), [4, 0].as_slice());
     Ok(())
 }
 

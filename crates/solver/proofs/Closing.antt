@@ -1,22 +1,20 @@
 -- A settled table that is finished makes the whole claim.
-use Rattle.std.proofs.Common.{◌≡◌, ℕ, zero, suc, ◌+◌, ◌<◌, ◌≤◌, min, Bool, true, false, cond, T, ltb, ◌⊎◌, List, sym, refl, ap, ◌∙◌, subst, inl, inr, arith, ltb→lt, lt→ltb, le-ltb, lt-ltb}
-use native.Mathlib.Decide.{dec_lt, dec_le}
-use Rattle.arena.specs.declared.player.Player.{Player}
-use Rattle.arena.specs.declared.player.Player.TheVariants.{Pursuer, Runner}
-use Rattle.arena.specs.Game.{Game, Rules, degree, move, caught, places}
-use Rattle.arena.specs.Levels.{Grows, Level, First, ByLevels}
+use Rattle.std.proofs.Common.{◌≡◌, ℕ, zero, suc, ◌<◌, ◌≤◌, true, false, ◌⊎◌, List, sym, refl, subst, inl, inr, arith, ltb→lt, lt→ltb, le-ltb, lt-ltb}
+use native.Mathlib.Decide.{dec_le}
+use Rattle.arena.specs.declared.player.Player.TheVariants.{Runner}
+use Rattle.arena.specs.Game.{Game, degree, move, caught, places}
+use Rattle.arena.specs.Levels.{Level, First, ByLevels}
 use Rattle.arena.specs.Sound.{PlacesSound}
 use Rattle.arena.specs.TableRules.{TableRules}
-use Rattle.theory.proofs.Plays.{tests, not_clash}
 use Rattle.theory.proofs.Levels.{level_mono, local, attractor}
 use Rattle.theory.proofs.Global.{claims}
 use Rattle.theory.proofs.Cover.{claims_up}
 use Rattle.theory.proofs.Labels.{labelled}
 use Rattle.theory.proofs.Stable.{sound_closed, sound_moves, sound_nonstop}
 use Rattle.marks.specs.Marks.{blank, never, none}
-use Rattle.rounds.specs.Words.{FirstPosition, Best, Finished, order_of, marks_of, moves_of, closed_marks}
+use Rattle.rounds.specs.Words.{Best, Finished, order_of, marks_of, moves_of, closed_marks}
 use Rattle.rounds.proofs.Positions.{first_same}
-use Rattle.solver.specs.Reached.{MarkedAt, OpenAt, AfterRound}
+use Rattle.solver.specs.Reached.{MarkedAt, AfterRound}
 use Rattle.solver.specs.Whole.{Whole, LongestCount, looks_sum}
 use Rattle.solver.proofs.Levels.{best_of, first_once, leads}
 use Rattle.solver.proofs.Kept.{Later, same_mark, marked_kept}

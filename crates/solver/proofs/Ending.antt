@@ -1,5 +1,5 @@
 -- How a run ends, by what became of its table.
-use Rattle.std.proofs.Common.{◌≡◌, ℕ, Bool, true, false, cond, List, [], length, Decides, sym, refl, ap, ◌∙◌, subst}
+use Rattle.std.proofs.Common.{◌≡◌, ℕ, Bool, true, false, cond, List, [], length, Decides, sym, refl, ap, subst}
 use Rattle.arena.specs.Game.{Game}
 use Rattle.arena.specs.Unfit.{Fits}
 use Rattle.rounds.specs.Words.{Finished, fresh}

@@ -1,15 +1,15 @@
 -- Rounds that each marked some place, and the one that marked none.
-use Rattle.std.proofs.Common.{◌≡◌, ℕ, zero, suc, ◌+◌, ◌*◌, ◌<◌, ◌≤◌, ◌⊎◌, List, sym, refl, ap, ◌∙◌, subst, inl, inr, arith}
+use Rattle.std.proofs.Common.{◌≡◌, ℕ, suc, ◌+◌, ◌*◌, ◌<◌, ◌≤◌, List, sym, refl, subst, inl, inr, arith}
 use native.Mathlib.Decide.{dec_lt}
 use Rattle.arena.specs.Game.{Game, places}
 use Rattle.arena.specs.Levels.{Level, First, ByLevels}
-use Rattle.arena.specs.Sound.{Sized, PlacesSound}
+use Rattle.arena.specs.Sound.{PlacesSound}
 use Rattle.theory.proofs.Levels.{level_mono}
 use Rattle.theory.proofs.Stable.{settled}
 use Rattle.marks.specs.Marks.{blank}
-use Rattle.rounds.specs.Words.{Begun, Rounded, Finished, marks_of, blanks, looks_of}
-use Rattle.rounds.proofs.Counts.{blanks_most, looks_most, no_more, none_ready, some_marked}
-use Rattle.solver.specs.Reached.{MarkedAt, OpenAt, AfterRound}
+use Rattle.rounds.specs.Words.{Begun, Rounded, Finished, blanks, looks_of}
+use Rattle.rounds.proofs.Counts.{blanks_most, looks_most, none_ready, some_marked}
+use Rattle.solver.specs.Reached.{AfterRound}
 use Rattle.solver.specs.Whole.{Whole, looks_sum}
 use Rattle.solver.proofs.Levels.{begun_after, stays}
 use Rattle.solver.proofs.Kept.{next_after}

@@ -1,18 +1,18 @@
 -- A move word stays the best when blank marks turn to later ones.
-use Rattle.std.proofs.Common.{◌≡◌, ℕ, suc, ◌+◌, ◌<◌, ◌≤◌, ◌⊎◌, List, sym, refl, ap, ◌∙◌, subst, inl, inr, arith}
+use Rattle.std.proofs.Common.{◌≡◌, ℕ, suc, ◌<◌, ◌≤◌, ◌⊎◌, List, sym, refl, ◌∙◌, subst, inl, inr, arith}
 use Rattle.arena.specs.declared.player.Player.{Player}
 use Rattle.arena.specs.declared.player.Player.TheVariants.{Pursuer, Runner}
-use Rattle.arena.specs.Game.{Game, Rules, degree, move, caught}
-use Rattle.arena.specs.Levels.{Grows, Level, First}
+use Rattle.arena.specs.Game.{Game, degree, move}
+use Rattle.arena.specs.Levels.{Level, First}
 use Rattle.arena.specs.Sound.{PlacesSound}
-use Rattle.theory.proofs.Plays.{tests, not_clash, not_both}
+use Rattle.theory.proofs.Plays.{not_both}
 use Rattle.theory.proofs.Levels.{level_mono}
 use Rattle.marks.specs.Marks.{blank}
 use Rattle.marks.specs.declared.pick.Order.TheVariants.{Least, Greatest}
 use Rattle.rounds.specs.Words.{FirstPosition, Best, Ready, Rounded, order_of, marks_of, moves_of}
 use Rattle.rounds.proofs.Positions.{first_same}
-use Rattle.solver.specs.Reached.{MarkedAt, OpenAt, AfterRound}
-use Rattle.solver.proofs.Levels.{in_level, grows, is_ready, ready_still}
+use Rattle.solver.specs.Reached.{MarkedAt, AfterRound}
+use Rattle.solver.proofs.Levels.{grows, is_ready, ready_still}
 
 -- each mark of W stands in V, or was blank and is above j
 abbrev pub Later : Game → ℕ → List ℕ → List ℕ → Type 0

@@ -1,5 +1,5 @@
 -- Marks within j rounds are levels.
-use Rattle.std.proofs.Common.{◌≡◌, ℕ, zero, suc, ◌+◌, ◌<◌, ◌≤◌, Bool, true, false, cond, ◌⊎◌, List, length, get_or, sym, refl, ap, ◌∙◌, subst, inl, inr, arith}
+use Rattle.std.proofs.Common.{◌≡◌, ℕ, zero, suc, ◌<◌, ◌≤◌, Bool, false, cond, List, sym, refl, ap, ◌∙◌, subst, inl, inr, arith}
 use native.Mathlib.Decide.{dec_lt, dec_le}
 use Rattle.arena.specs.declared.player.Player.{Player}
 use Rattle.arena.specs.declared.player.Player.TheVariants.{Pursuer, Runner}
@@ -10,9 +10,8 @@ use Rattle.theory.proofs.Plays.{tests, not_clash}
 use Rattle.theory.proofs.Levels.{level_mono}
 use Rattle.theory.proofs.Stable.{sound_moves}
 use Rattle.marks.specs.Marks.{blank}
-use Rattle.marks.specs.declared.pick.Order.TheVariants.{Least, Greatest}
 use Rattle.rounds.specs.Words.{FirstPosition, Best, Ready, Begun, order_of, marks_of, moves_of}
-use Rattle.solver.specs.Reached.{MarkedAt, OpenAt, AfterRound}
+use Rattle.solver.specs.Reached.{MarkedAt, AfterRound}
 
 -- the best position, once the owner is known
 pub best_of : (R : Rules) (μ : ℕ → ℕ) (p j : ℕ) (s : Player) → R.owner p ≡ s → Best R μ p j → FirstPosition (order_of s) (λ k. μ (move R p k)) (degree R p) j

@@ -1,9 +1,9 @@
 -- The looks of a round, by the marks that the places come to have.
-use Rattle.std.proofs.Common.{◌≡◌, ℕ, zero, suc, ◌+◌, ◌<◌, ◌≤◌, Bool, true, false, cond, ltb, leb, ◌⊎◌, List, sym, refl, ap, ◌∙◌, inl, inr, arith, lt→ltb}
+use Rattle.std.proofs.Common.{◌≡◌, ℕ, zero, suc, ◌<◌, ◌≤◌, cond, leb, List, refl, inl, inr, arith, lt→ltb}
 use native.Mathlib.Decide.{dec_lt, dec_le}
 use Rattle.std.proofs.lemmas.Bool.Decides.{nat_tests}
 use Rattle.arena.specs.Game.{Game, degree, places}
-use Rattle.arena.specs.Levels.{Level, ByLevels}
+use Rattle.arena.specs.Levels.{ByLevels}
 use Rattle.theory.proofs.Levels.{level_mono}
 use Rattle.marks.specs.Marks.{blank, never}
 use Rattle.rounds.specs.Words.{looks_of, marks_of}

@@ -1,13 +1,13 @@
 -- What holds of every run that is told one arena throughout.
-use Rattle.std.proofs.Common.{◌≡◌, ℕ, zero, suc, ◌+◌, ◌<◌, ◌≤◌, min, Bool, true, false, eqb, ◌⊎◌, List, [], ◌∷◌, length, sym, refl, ap, ◌∙◌, subst, inl, inr, arith, eq-eqb, ne_eqb}
+use Rattle.std.proofs.Common.{◌≡◌, ℕ, suc, ◌+◌, true, false, ◌⊎◌, List, [], ◌∷◌, length, sym, refl, ◌∙◌, subst, inl, inr, arith, eq-eqb, ne_eqb}
 use native.Mathlib.Decide.{dec_lt}
 use Rattle.arena.specs.Game.{Game}
 use Rattle.arena.specs.Unfit.{Fits}
 use Rattle.theory.proofs.Plays.{not_clash}
-use Rattle.rounds.specs.Words.{Begun, Rounded, Finished, blanks, looks_of}
+use Rattle.rounds.specs.Words.{Begun, Rounded, Finished, looks_of}
 use Rattle.rounds.proofs.Counts.{looks_most}
 use Rattle.solver.specs.State.{State, start, MakesRound, AcceptsRound}
-use Rattle.solver.specs.Reached.{Call, round, finish, Answers, AfterCalls, Reached, AfterRound}
+use Rattle.solver.specs.Reached.{Call, round, finish, Answers, AfterCalls, Reached}
 use Rattle.solver.specs.Whole.{Whole}
 use Rattle.solver.specs.Progress.{Progress}
 use Rattle.solver.proofs.Going.{Going, Over, going_start, going_more, going_over, over_whole}

@@ -1,5 +1,5 @@
 -- What a round says of the run, by what it made of the table.
-use Rattle.std.proofs.Common.{◌≡◌, ℕ, ◌+◌, ◌<◌, ◌≤◌, min, Bool, true, false, cond, eqb, ◌⊎◌, List, [], length, Ok, Err, Result, sym, refl, ap, ◌∙◌, subst, inl, inr, arith, eq-eqb, MatchResult}
+use Rattle.std.proofs.Common.{◌≡◌, ℕ, ◌+◌, ◌<◌, min, Bool, true, false, cond, eqb, ◌⊎◌, List, [], length, Ok, Err, Result, sym, refl, ap, ◌∙◌, subst, inl, inr, arith, eq-eqb, MatchResult}
 use Rattle.arena.specs.Game.{Game}
 use Rattle.std.specs.Result.{result_unwrap_or}
 use Rattle.arena.specs.Unfit.{Fits, Cause}

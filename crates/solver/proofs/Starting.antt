@@ -1,11 +1,11 @@
 -- What a begin gives, and which arenas no run is told.
-use Rattle.std.proofs.Common.{◌≡◌, ℕ, ◌*◌, Bool, true, false, ◌⊎◌, List, [], length, is_ok, Ok, Err, Result, sym, refl, ap, ◌∙◌, subst, inl, inr, arith, MatchResult}
+use Rattle.std.proofs.Common.{◌≡◌, ℕ, Bool, false, List, [], length, is_ok, Ok, Err, Result, sym, ap, subst, inl, inr, arith, MatchResult}
 use Rattle.arena.specs.Game.{Game}
 use Rattle.arena.specs.Unfit.{Fits, Cause}
 use Rattle.arena.specs.declared.unfit.Unfit.{Unfit}
 use Rattle.arena.proofs.Fitting.{misfit}
 use Rattle.rounds.specs.Words.{Begun}
-use Rattle.solver.specs.State.{State, state, start, Begins}
+use Rattle.solver.specs.State.{State, state, Begins}
 use Rattle.solver.specs.Reached.{Reached}
 
 -- no arena fits an empty table

@@ -1,5 +1,5 @@
 -- When a run may be finished, and why not.
-use Rattle.std.specs.Prelude.{◌≡◌, ℕ, Bool, true, false, List, [], ◌∷◌, length}
+use Rattle.std.specs.Prelude.{◌≡◌, ℕ, true, false, List, [], length}
 use Rattle.arena.specs.Game.{Game}
 use Rattle.arena.specs.Unfit.{Fits, Cause, told as told-unfit}
 use Rattle.solver.specs.State.{State}

@@ -1,6 +1,6 @@
 -- A run that is told one arena throughout, and what its table then holds.
-use Rattle.std.specs.Prelude.{◌≡◌, ℕ, suc, ◌<◌, ◌≤◌, true, false, ◌⊎◌, List, [], ◌∷◌, length}
-use Rattle.arena.specs.Game.{Game, move, caught}
+use Rattle.std.specs.Prelude.{◌≡◌, ℕ, ◌<◌, ◌≤◌, true, false, ◌⊎◌, List, [], ◌∷◌, length}
+use Rattle.arena.specs.Game.{Game, caught}
 use Rattle.arena.specs.Levels.{Level, First}
 use Rattle.arena.specs.Unfit.{Fits}
 use Rattle.marks.specs.Marks.{blank, none}

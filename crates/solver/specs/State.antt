@@ -1,5 +1,5 @@
 -- What a run holds, and what a begin and a round make of it.
-use Rattle.std.specs.Prelude.{◌≡◌, ℕ, ◌+◌, ◌≤◌, min, Bool, true, false, cond, ◌⊎◌, List, [], length, ◌==◌}
+use Rattle.std.specs.Prelude.{◌≡◌, ℕ, ◌+◌, min, Bool, true, false, cond, ◌⊎◌, List, [], length, ◌==◌}
 use Rattle.arena.specs.Game.{Game}
 use Rattle.arena.specs.Unfit.{Fits}
 use Rattle.rounds.specs.Words.{Begun, Rounded, blanks, looks_of, last_round}

@@ -1,5 +1,5 @@
 -- All that is claimed of a finished table, and of the rounds and looks that made it.
-use Rattle.std.specs.Prelude.{◌≡◌, ℕ, zero, suc, ◌+◌, ◌<◌, ◌≤◌, Bool, true, false, cond, ◌⊎◌, List, nat_le}
+use Rattle.std.specs.Prelude.{◌≡◌, ℕ, zero, suc, ◌+◌, ◌<◌, ◌≤◌, false, cond, ◌⊎◌, List, nat_le}
 use Rattle.arena.specs.Game.{Game, Rules, degree, caught, places}
 use Rattle.arena.specs.Claims.{Claims}
 use Rattle.arena.specs.Folds.{Folds}

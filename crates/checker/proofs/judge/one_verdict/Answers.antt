@@ -1,4 +1,4 @@
-use Rattle.std.proofs.Common.{◌≡◌, ℕ, ◌<◌, List, length, Ok, Err, Result, sym, refl, ap, arith}
+use Rattle.std.proofs.Common.{◌≡◌, ℕ, ◌<◌, List, length, Ok, Err, Result, refl, ap, arith}
 use Rattle.arena.proofs.Fitting.{misfit, once}
 use Rattle.arena.specs.Game.{Game}
 use Rattle.checker.specs.Verdicts.{Accepted, Cause, Verdict}

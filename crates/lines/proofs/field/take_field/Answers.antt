@@ -4,8 +4,8 @@ use Rattle.lines.proofs.Fields.{longest_ends}
 use Rattle.lines.proofs.Refusing.{refused_space, refused_field}
 use Rattle.lines.proofs.field.take_field.Goals as goal
 
-pub returns-in-default : goal.returns-in-default
-returns-in-default c ks =
+pub returns-in_default : goal.returns-in_default
+returns-in_default c ks =
     refused_space c.args.kind ks c.args.at c.args.rest.now (λ l e. search rules)
 
 pub returns-then-n-lt-FEWEST : goal.returns-then-n-lt-FEWEST

@@ -4,8 +4,8 @@ use Rattle.lines.proofs.Texts.{found_within, found_line}
 use Rattle.lines.specs.Lines.{unlined}
 use Rattle.lines.proofs.line.front_line.Goals as goal
 
-pub split-at-requires : goal.split-at-requires
-split-at-requires c = found_within _ _ _ _ _ c.in-Some.ensures c.in-Ok.ensures
+pub split_at-requires : goal.split_at-requires
+split_at-requires c = found_within _ _ _ _ _ c.in-Some.ensures c.in-Ok.ensures
 
 pub returns-in-Ok : goal.returns-in-Ok
 returns-in-Ok c = found_line _ _ _ _ _ _ c.in-Some.ensures c.in-Ok.ensures c.split_at.ensures.front refl

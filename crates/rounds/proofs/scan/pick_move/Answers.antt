@@ -9,7 +9,7 @@ use Rattle.rounds.proofs.scan.pick_move.Goals as goal
 pub returns-in-Pursuer : goal.returns-in-Pursuer
 returns-in-Pursuer g c =
     let row : List ℕ = seen_row (g.A.Arena.game c.args.arena.now).rules c.args.cap c.args.table.now c.args.place in
-    let seen = c.look-round-seen in
+    let seen = c.look_round-seen in
     record {
       pick = subst (λ (s : Player). Picked (order_of s) 0 row seen.result.pick.pick) (sym c.in-Pursuer.is) (pursuer_picks 0 row seen.result.pick seen.ensures.pick).has;
       looks = seen.ensures.looks;
@@ -18,7 +18,7 @@ returns-in-Pursuer g c =
 pub returns-in-Runner : goal.returns-in-Runner
 returns-in-Runner g c =
     let row : List ℕ = seen_row (g.A.Arena.game c.args.arena.now).rules c.args.cap c.args.table.now c.args.place in
-    let seen = c.look-round-seen-in-Runner in
+    let seen = c.look_round-seen-in-Runner in
     record {
       pick = subst (λ (s : Player). Picked (order_of s) 0 row seen.result.pick.pick) (sym c.in-Runner.is) (runner_picks 0 row seen.result.pick seen.ensures.pick).has;
       looks = seen.ensures.looks;

@@ -1,4 +1,4 @@
-use Rattle.std.proofs.Common.{◌≡◌, sym, ◌∙◌, rules}
+use Rattle.std.proofs.Common.{sym, ◌∙◌, rules}
 use Rattle.arena.specs.Game.{Game}
 use Rattle.solver.proofs.Reaching.{reached_holds}
 use Rattle.solver.proofs.Told.{whole_at}

@@ -1,4 +1,4 @@
-use Rattle.std.proofs.Common.{◌≡◌, length, refl, ap, arith}
+use Rattle.std.proofs.Common.{length, refl, ap, arith}
 use Rattle.arena.specs.Game.{Game}
 use Rattle.solver.proofs.Ending.{live_words, words_are}
 use Rattle.solver.proofs.Reaching.{reached_holds}
@@ -6,12 +6,12 @@ use Rattle.solver.proofs.Told.{whole_at}
 use Rattle.solver.proofs.solve.solve_to_read.Goals as goal
 
 pub settle-requires : goal.settle-requires
-settle-requires g c = c.begin-run.ensures.reached c.in-ok-can-begin.ensures
+settle-requires g c = c.begin-run.ensures.reached c.in_ok-can_begin.ensures
 
 pub returns : goal.returns
 returns g c =
     let G : Game = g.A.Arena.game c.args.arena.now in
-    let fit = c.in-ok-can-begin.ensures in
+    let fit = c.in_ok-can_begin.ensures in
     let ended = c.finish.ensures.ended in
     let run = c.settle.new.self in
     let reached = c.settle.ensures.reached in

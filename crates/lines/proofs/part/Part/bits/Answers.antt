@@ -6,11 +6,11 @@ use Rattle.lines.proofs.part.Part.bits.Goals as goal
 pub loop-i-init : goal.loop-i-init
 loop-i-init c = bits_none c.args.self.bytes.now c.min-i.result c.min-i.ensures
 
-pub overflow-mul-bits : goal.overflow-mul-bits
-overflow-mul-bits c = omega (arith, c.loop-i.invariant, bits_room c.args.self.bytes.now c.loop-i.i c.loop-i-test.true)
+pub overflow_mul-bits : goal.overflow_mul-bits
+overflow_mul-bits c = omega (arith, c.loop-i.invariant, bits_room c.args.self.bytes.now c.loop-i.i c.loop-i-test.true)
 
-pub overflow-add-bits : goal.overflow-add-bits
-overflow-add-bits c =
+pub overflow_add-bits : goal.overflow_add-bits
+overflow_add-bits c =
     omega (arith, c.loop-i.invariant, bits_room c.args.self.bytes.now c.loop-i.i c.loop-i-test.true, bit_le (get_or c.args.self.bytes.now (c.loop-i.i - 1) 0))
 
 pub loop-i-preserved : goal.loop-i-preserved

@@ -4,8 +4,8 @@ use Rattle.solver.proofs.run.Run.close.Goals as goal
 
 pub returns : goal.returns
 returns g c =
-    let e = c.end-table.ensures in
+    let e = c.end_table.ensures in
     record {
-      ended = ended (g.A.Arena.game c.args.arena.now) _ _ _ _ _ _ _ c.end-table.auto.table e.decided e.finished e.cleared e.untouched;
+      ended = ended (g.A.Arena.game c.args.arena.now) _ _ _ _ _ _ _ c.end_table.auto.table e.decided e.finished e.cleared e.untouched;
       counted = (refl, refl);
     }

@@ -4,8 +4,8 @@ use Rattle.solver.proofs.run.Run.finish.Goals as goal
 
 pub returns : goal.returns
 returns g c =
-    let e = c.end-table-accepted.ensures in
+    let e = c.end_table-accepted.ensures in
     record {
-      ended = ended (g.A.Arena.game c.args.arena.now) _ _ _ _ _ _ _ c.end-table-accepted.auto.table e.decided e.finished e.cleared e.untouched;
+      ended = ended (g.A.Arena.game c.args.arena.now) _ _ _ _ _ _ _ c.end_table-accepted.auto.table e.decided e.finished e.cleared e.untouched;
       counted = (refl, refl);
     }

@@ -1,4 +1,4 @@
-use Rattle.std.proofs.Common.{◌≡◌, sym, refl, ◌∙◌, arith}
+use Rattle.std.proofs.Common.{sym, refl, ◌∙◌, arith}
 use Rattle.arena.specs.Game.{Game}
 use Rattle.solver.proofs.Reaching.{reached_holds}
 use Rattle.solver.proofs.Rounding.{round_counts}
@@ -21,5 +21,5 @@ returns g c =
     record {
       bound = c.round.ensures.bound ∙ c.rounds.invariant.0;
       reached = (c.round.ensures.reached c.rounds.invariant.1).0;
-      settled = (round_counts G _ _ c.round.result _ (reached_holds G _ c.rounds.invariant.1).fits c.round.ensures.told).0 (sym c.unwrap-or-marked.ensures ∙ c.if-marked-eq0.true);
+      settled = (round_counts G _ _ c.round.result _ (reached_holds G _ c.rounds.invariant.1).fits c.round.ensures.told).0 (sym c.unwrap_or-marked.ensures ∙ c.if-marked-eq0.true);
     }

@@ -7,7 +7,7 @@ use Rattle.solver.proofs.run.Run.settle.Given as goal
 -- the run is bound to the same table, and told one arena
 abbrev pub invariant-rounds : goal.invariant-rounds
 invariant-rounds g l =
-    (l.self.table.name ≡ l.initial.self.table.name)
+    (l.self.table.ghost_name ≡ l.initial.self.table.ghost_name)
     × Reached (g.A.Arena.game l.arena) (state l.self.live l.self.table.now l.self.rounds l.self.looks l.self.settled)
 
 -- each round but the last leaves fewer blank marks
