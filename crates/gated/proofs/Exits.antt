@@ -1,6 +1,6 @@
 -- The exits of a spot of the board are spots of the board, and few.
 use Rattle.std.proofs.Common.{◌≡◌, ℕ, ◌+◌, ◌<◌, ◌≤◌, true, false, cond, eqb, List, [], ◌∷◌, ◌++◌, length, get_or, filter, sym, refl, ap, ◌∙◌, arith, length-append}
-use Rattle.std.specs.List.{AllByRecursion as All}
+use Rattle.std.specs.List.{AllByRecursion}
 use Rattle.std.proofs.ByRecursion.{All-append, All-get_or}
 use Rattle.std.proofs.lemmas.Bool.{and_parts, cond_both}
 use Rattle.std.proofs.lemmas.Bool.Decides.{nat_tests}
@@ -22,12 +22,12 @@ far_by P t spot g none to from =
     (λ _. cond_both (eqb spot g.to) (g.from ∷ []) [] P (λ _. from) (λ _. none)))
     (λ _. none)
 
-fars_in : (n t spot : ℕ) (gates : List Gate) → all_join n gates ≡ true → All (λ e. e < n) (fars t spot gates)
+fars_in : (n t spot : ℕ) (gates : List Gate) → all_join n gates ≡ true → AllByRecursion (λ e. e < n) (fars t spot gates)
 fars_in n t spot [] h = tt
 fars_in n t spot (g ∷ gs) h =
     let p = and_parts (joins n g) (all_join n gs) h in
     All-append (λ e. e < n) (far t spot g) (fars t spot gs)
-    (far_by (All (λ e. e < n)) t spot g tt (joins_to n g p.0, tt) (joins_from n g p.0, tt))
+    (far_by (AllByRecursion (λ e. e < n)) t spot g tt (joins_to n g p.0, tt) (joins_from n g p.0, tt))
     (fars_in n t spot gs p.1)
 
 pub exits_in : (n t spot : ℕ) (gates : List Gate) → all_join n gates ≡ true → spot < n

@@ -7,7 +7,7 @@ use sheet::refusal::Refusal;
 use sheet::sheet::Sheet;
 use std::alloc::{AllocError, Global};
 use std::process::Abort;
-use std::test::*;
+use std::test::Fail;
 
 // A gate as a row: its bits are the steps at which it says that it is open.
 fn row_of(gate: &Gate) -> Row {

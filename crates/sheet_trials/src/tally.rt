@@ -1,5 +1,6 @@
 use crate::answer::{Answer, Stop};
-use std::test::*;
+use std::process::Abort;
+use std::test::Fail;
 
 // How often sheets were read, and how often each refusal was told, by its number.
 #[derive(Drop)]
@@ -31,18 +32,16 @@ impl Tally {
     }
 
     // Wants that so many sheets were read.
-    pub fn has_read(&self, least: u32) -> Result<(), Fail> {
+    pub fn has_read(&self, rt: &impl Abort, least: u32) {
         let read = self.read;
-        assert!(read >= least, "{read} sheets read");
-        Ok(())
+        assert!(rt; read >= least, "{read} sheets read");
     }
 
     // Wants that each of these refusals was told so often.
-    pub fn has_refused(&self, numbers: &[usize], least: u32) -> Result<(), Fail> {
+    pub fn has_refused(&self, rt: &impl Abort, numbers: &[usize], least: u32) {
         for number in numbers {
             let times = self.refused.get(*number).copied().unwrap_or(0);
-            assert!(times >= least, "refusal {number}, {times} times");
+            assert!(rt; times >= least, "refusal {number}, {times} times");
         }
-        Ok(())
     }
 }

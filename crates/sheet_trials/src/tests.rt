@@ -6,7 +6,7 @@ use crate::plan::{Entry, lawful_plan, text_of, written_by};
 use crate::tally::Tally;
 use std::alloc::Global;
 use std::process::Abort;
-use std::test::*;
+use std::test::Fail;
 
 const LAWFUL: u64 = 2000;
 
@@ -95,8 +95,9 @@ fn damaged_sheets_are_judged_alike(rt: HostRuntime) -> Result<(), Fail> {
         let sheet = damaged_sheet(heap, &mut dice)?;
         tally.count(&agreed(&rt, heap, sheet.as_slice())?)?;
     }
-    tally.has_read(100)?;
-    tally.has_refused(&[3, 4, 5, 6, 7, 8], 100)
+    tally.has_read(&rt, 100);
+    tally.has_refused(&rt, &[3, 4, 5, 6, 7, 8], 100);
+    Ok(())
 }
 
 #[test]
@@ -119,8 +120,9 @@ fn every_byte_is_judged_alike(rt: HostRuntime) -> Result<(), Fail> {
         &mut tally,
         b"bd 21\ngt 0 20 00000000000000000000000000000001\ngt 20 2 1000000000000000000000000000000\nen\n",
     )?;
-    tally.has_read(10)?;
-    tally.has_refused(&[3, 4, 5, 6, 7, 8], 10)
+    tally.has_read(&rt, 10);
+    tally.has_refused(&rt, &[3, 4, 5, 6, 7, 8], 10);
+    Ok(())
 }
 
 #[test]
@@ -132,8 +134,9 @@ fn crowds_of_gates_are_judged_alike(rt: HostRuntime) -> Result<(), Fail> {
         let plan = crowded_plan(heap, &mut dice)?;
         try_plan(&rt, heap, &mut tally, plan.as_slice())?;
     }
-    tally.has_read(10)?;
-    tally.has_refused(&[6, 8, 9], 5)
+    tally.has_read(&rt, 10);
+    tally.has_refused(&rt, &[6, 8, 9], 5);
+    Ok(())
 }
 
 #[test]
@@ -143,6 +146,7 @@ fn long_clocks_are_judged_alike(rt: HostRuntime) -> Result<(), Fail> {
     for seed in 0..CLOCKS {
         try_sizes(&rt, heap, &mut tally, seed)?;
     }
-    tally.has_read(1000)?;
-    tally.has_refused(&[10], 1000)
+    tally.has_read(&rt, 1000);
+    tally.has_refused(&rt, &[10], 1000);
+    Ok(())
 }

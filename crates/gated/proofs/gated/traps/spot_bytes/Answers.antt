@@ -11,4 +11,4 @@ byte_is false = refl
 pub loop-spot-preserved : goal.loop-spot-preserved
 loop-spot-preserved c =
     mapped_more (spot_byte c.args.traps.now) c.loop-spot.spot c.from.result (vec_items c.loop-spot.bytes) (vec_items c.push.new.self) c.loop-spot.invariant
-    (c.from.ensures ∙ byte_is c.has-trap.result ∙ ap (λ b. cond b 1 0) c.has-trap.ensures) c.in-ok-push.ensures.items
+    (c.from.ensures ∙ byte_is c.has_trap.result ∙ ap (λ b. cond b 1 0) c.has_trap.ensures) c.in_ok-push.ensures.items
