@@ -1,5 +1,5 @@
 -- The whole claim, from what runs leave and what the checker answers.
-use Rattle.std.proofs.Common.{◌≡◌, ℕ, ◌<◌, true, false, T, ◌↔◌, List, length, is_ok, Ok, Err, Result, sym, refl, subst, lt→ltb}
+use Rattle.std.proofs.Common.{◌≡◌, ℕ, ◌<◌, true, false, List, length, is_ok, Ok, Err, Result, sym, refl, subst, lt→ltb}
 use Rattle.arena.specs.Game.{Game}
 use Rattle.arena.specs.Tables.{TrueTable, TrueFolded}
 use Rattle.arena.specs.Unfit.{Fits}
@@ -16,7 +16,7 @@ use Rattle.solver.proofs.Reaching.{reached_whole}
 use Rattle.arena.proofs.Fitting.{misfit}
 use Rattle.solver.specs.Whole.{Whole}
 use Rattle.theory.proofs.Plays.{not_clash}
-use Rattle.pursuit.specs.Claim.{FinishedTable, TrueOnBoard, WholeClaim}
+use Rattle.pursuit.specs.Claim.{FinishedTable, WholeClaim}
 use Rattle.pursuit.specs.Solved.{TrueEndless}
 
 -- what is so in every game that folds onto the board's under its pile is so on the endless clock

@@ -1,5 +1,5 @@
 -- Why a board is not solved.
-use Rattle.std.specs.Prelude.{◌≡◌, ℕ, List, length}
+use Rattle.std.specs.Prelude.{ℕ, List}
 use Rattle.arena.specs.Unfit.{Cause, told as told-unfit}
 use Rattle.board.specs.declared.board.Board.{Board}
 use Rattle.board.specs.Boards.{spots_of}

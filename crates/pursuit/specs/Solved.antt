@@ -1,5 +1,5 @@
 -- All that is claimed of the finished table of a gated board with traps.
-use Rattle.std.specs.Prelude.{ℕ, Bool, true, List}
+use Rattle.std.specs.Prelude.{ℕ, true, List}
 use Rattle.arena.specs.Claims.{Claims}
 use Rattle.arena.specs.Game.{Game, Rules}
 use Rattle.board.specs.declared.board.Board.{Board}

@@ -1,5 +1,3 @@
-use Rattle.std.proofs.Common.{ap, ◌∙◌}
-use Rattle.gated.specs.declared.gated.Gated.{Gated}
 use Rattle.gated.specs.Games.{game_of}
 use Rattle.trap.proofs.Exclude.{unlawful}
 use Rattle.pursuit.proofs.trapped.under_traps.Goals as goal

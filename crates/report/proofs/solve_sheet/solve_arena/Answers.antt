@@ -7,32 +7,32 @@ use Rattle.report.proofs.Telling.{tallied_of, opens_of, so_of, solved_of}
 use Rattle.report.proofs.Wanting.{only_memory}
 use Rattle.report.proofs.solve_sheet.solve_arena.Goals as goal
 
-pub memory-wanting-requires : goal.memory-wanting-requires
-memory-wanting-requires c =
+pub memory_wanting-requires : goal.memory_wanting-requires
+memory_wanting-requires c =
     let b = c.args.arena.now.board in
     let places : c.places-places.result ≡ places_of b = c.places-places.ensures ∙ ap (λ (x : Board). places_of x) c.board-board.ensures in
     let long : length c.as_mut_slice.result.now ≡ 2 * places_of b = omega (arith, c.as_mut_slice.ensures.len, c.in-Ok.ensures.made.1) in
     only_memory b c.args.traps.now _ c.requires long c.in-Err.why c.in-Err.ensures.solved
 
-pub judge-solved-requires : goal.judge-solved-requires
-judge-solved-requires c =
+pub judge_solved-requires : goal.judge_solved-requires
+judge_solved-requires c =
     let b = c.args.arena.now.board in
-    let told = c.in-Ok-solve-board.ensures.solved in
+    let told = c.in-Ok-solve_board.ensures.solved in
     let places : c.places-places.result ≡ places_of b = c.places-places.ensures ∙ ap (λ (x : Board). places_of x) c.board-board.ensures in
-    let long : length c.in-Ok-solve-board.finished.table.now ≡ 2 * places_of b =
+    let long : length c.in-Ok-solve_board.finished.table.now ≡ 2 * places_of b =
     omega (arith, told.1, c.as_mut_slice.ensures.len, c.in-Ok.ensures.made.1) in
     record { below = c.requires; so = so_of b c.args.traps.now _ _ _ _ _ told.0 long c.words.ensures told.2 }
 
-pub returns-in-err-judge-solved : goal.returns-in-err-judge-solved
-returns-in-err-judge-solved c = let p = err_from_is_err_and c.from_residual.result c.from_residual.ensures.1 in rw (p.1, p.2) c.in-err-judge-solved.ensures
+pub returns-in-err-judge_solved : goal.returns-in-err-judge_solved
+returns-in-err-judge_solved c = let p = err_from_is_err_and c.from_residual.result c.from_residual.ensures.1 in rw (p.1, p.2) c.in-err-judge_solved.ensures
 
 pub returns : goal.returns
 returns c =
     let b = c.args.arena.now.board in
     let same : c.board-board.result.now ≡ b = c.board-board.ensures in
     let places : c.places-places.result ≡ places_of b = c.places-places.ensures ∙ ap (λ (x : Board). places_of x) same in
-    let f = c.in-Ok-solve-board.finished in
-    let told = c.in-Ok-solve-board.ensures.solved in
+    let f = c.in-Ok-solve_board.finished in
+    let told = c.in-Ok-solve_board.ensures.solved in
     let long : length f.table.now ≡ 2 * places_of b = omega (arith, told.1, c.as_mut_slice.ensures.len, c.in-Ok.ensures.made.1) in
     record {
       spots = c.spots.ensures ∙ ap (λ (x : Board). spots_of x) same;
@@ -42,5 +42,5 @@ returns c =
       table = f.table.now;
       solved = solved_of b _ _ _ _ _ _ c.rounds.ensures c.looks.ensures told.2;
       tallied = tallied_of (places_of b) f.accepted _ _ told.0 long c.tally.ensures;
-      opens = opens_of (spots_of b) _ f.accepted _ _ told.0 (ap (λ (x : Board). spots_of x) same) c.in-Ok-opening-of.ensures.1;
+      opens = opens_of (spots_of b) _ f.accepted _ _ told.0 (ap (λ (x : Board). spots_of x) same) c.in-Ok-opening_of.ensures.1;
     }
