@@ -1,7 +1,6 @@
 -- A report by what each call told.
-use Rattle.std.proofs.Common.{◌≡◌, ℕ, ◌*◌, ◌/◌, ◌<◌, ◌≤◌, Bool, true, cond, ◌⊎◌, List, [], length, take, Ok, Err, vec_items, Result, sym, refl, ap, ◌∙◌, subst, inl, inr, arith, MatchResult}
+use Rattle.std.proofs.Common.{◌≡◌, ℕ, ◌*◌, ◌/◌, ◌<◌, ◌≤◌, Bool, true, cond, ◌⊎◌, List, [], length, take, Ok, Err, vec_items, Result, sym, ap, ◌∙◌, subst, inl, inr, arith, MatchResult}
 use Rattle.board.specs.declared.board.Board.{Board}
-use Rattle.board.specs.Boards.{spots_of, period_of, gates_of}
 use Rattle.marks.specs.Tallies.{Tallied}
 use Rattle.marks.specs.Unique.{TheOne}
 use Rattle.marks.specs.declared.tally.Tally.{Tally}
@@ -12,7 +11,7 @@ use Rattle.pursuit.specs.Solved.{BoardSolved}
 use Rattle.sheet.specs.Readings.{Reads}
 use Rattle.sheet.specs.declared.sheet.Sheet.{Sheet}
 use Rattle.report.specs.declared.failure.Failure.{Failure}
-use Rattle.report.specs.declared.failure.Failure.TheVariants.{TooLarge, Refused, NoMemory}
+use Rattle.report.specs.declared.failure.Failure.TheVariants.{TooLarge, NoMemory}
 use Rattle.report.specs.declared.report.Report.{Report}
 use Rattle.report.proofs.Wanting.{trapped_fits}
 use Rattle.report.specs.Reports.{places_of, ToldOf, Reports, Fails}

@@ -1,6 +1,6 @@
 -- A board with traps on its spots and a table of its size is refused only for want of memory.
-use Rattle.std.proofs.Common.{◌≡◌, ℕ, ◌*◌, ◌<◌, Bool, true, false, ◌&&◌, ◌||◌, ltb, List, [], ◌∷◌, sym, refl, ap, ◌∙◌, lt-ltb}
-use Rattle.std.specs.List.{AllByRecursion as All}
+use Rattle.std.proofs.Common.{◌≡◌, ℕ, ◌*◌, ◌<◌, Bool, true, ◌&&◌, ◌||◌, List, [], ◌∷◌, refl, ap, ◌∙◌, lt-ltb}
+use Rattle.std.specs.List.{AllByRecursion}
 use Rattle.arena.specs.Unfit.{Fits}
 use Rattle.board.specs.declared.board.Board.{Board}
 use Rattle.board.specs.Boards.{spots_of, period_of}
@@ -32,6 +32,6 @@ only_memory b traps words below e (Traps NoMemory) cause = refl
 only_memory b traps words below e (Misfit u) cause = absurd (misfit (trapped_game b traps) words u cause (trapped_fits b traps words e))
 
 -- traps that are each on a spot
-pub below_all : (n : ℕ) (traps : List ℕ) → All (λ v. v < n) traps → all_below n traps ≡ true
+pub below_all : (n : ℕ) (traps : List ℕ) → AllByRecursion (λ v. v < n) traps → all_below n traps ≡ true
 below_all n [] h = refl
 below_all n (t ∷ ts) (here, rest) = ap (λ (x : Bool). x && all_below n ts) (lt-ltb t n here) ∙ below_all n ts rest

@@ -1,5 +1,5 @@
 -- What is printed of a sheet that is not solved.
-use Rattle.std.specs.Prelude.{ℕ, Some, None, Option}
+use Rattle.std.specs.Prelude.{Some, None, Option}
 use Rattle.std.specs.Option.{option_map}
 use Rattle.lines.specs.declared.refusal.Told.{Told}
 use Rattle.sheet.specs.Refusals.{told}

@@ -1,5 +1,5 @@
 -- What is told of a sheet: the report of its solved board, or why there is none.
-use Rattle.std.specs.Prelude.{◌≡◌, ℕ, ◌<◌, ◌≤◌, ◌⊎◌, List, length, take, None, Ok, Err, vec_items, Option, ◌≢◌}
+use Rattle.std.specs.Prelude.{◌≡◌, ℕ, ◌<◌, ◌≤◌, ◌⊎◌, List, length, take, None, Ok, Err, vec_items, ◌≢◌}
 use Rattle.board.specs.declared.board.Board.{Board}
 use Rattle.board.specs.Boards.{spots_of, period_of, gates_of}
 use Rattle.board.specs.Gates.{places}

@@ -1,4 +1,4 @@
-use Rattle.std.proofs.Common.{◌≡◌, ℕ, ◌*◌, length, sym, refl, ap, ◌∙◌, arith}
+use Rattle.std.proofs.Common.{◌≡◌, ◌*◌, length, ap, ◌∙◌, arith}
 use Rattle.std.proofs.lemmas.Result.{err_from_is_err_and}
 use Rattle.board.specs.declared.board.Board.{Board}
 use Rattle.board.specs.Boards.{spots_of, period_of, gates_of}
@@ -11,7 +11,7 @@ pub memory_wanting-requires : goal.memory_wanting-requires
 memory_wanting-requires c =
     let b = c.args.arena.now.board in
     let places : c.places-places.result ≡ places_of b = c.places-places.ensures ∙ ap (λ (x : Board). places_of x) c.board-board.ensures in
-    let long : length c.as_mut_slice.result.now ≡ 2 * places_of b = omega (arith, c.as_mut_slice.ensures.len, c.in-Ok.ensures.made.1) in
+    let long : length c.as_mut_slice.result.now ≡ 2 * places_of b = omega (arith, c.as_mut_slice.ensures.len, c.in-Ok.ensures.len) in
     only_memory b c.args.traps.now _ c.requires long c.in-Err.why c.in-Err.ensures.solved
 
 pub judge_solved-requires : goal.judge_solved-requires
@@ -20,11 +20,11 @@ judge_solved-requires c =
     let told = c.in-Ok-solve_board.ensures.solved in
     let places : c.places-places.result ≡ places_of b = c.places-places.ensures ∙ ap (λ (x : Board). places_of x) c.board-board.ensures in
     let long : length c.in-Ok-solve_board.finished.table.now ≡ 2 * places_of b =
-    omega (arith, told.1, c.as_mut_slice.ensures.len, c.in-Ok.ensures.made.1) in
+    omega (arith, told.1, c.as_mut_slice.ensures.len, c.in-Ok.ensures.len) in
     record { below = c.requires; so = so_of b c.args.traps.now _ _ _ _ _ told.0 long c.words.ensures told.2 }
 
-pub returns-in-err-judge_solved : goal.returns-in-err-judge_solved
-returns-in-err-judge_solved c = let p = err_from_is_err_and c.from_residual.result c.from_residual.ensures.1 in rw (p.1, p.2) c.in-err-judge_solved.ensures
+pub returns-in_err-judge_solved : goal.returns-in_err-judge_solved
+returns-in_err-judge_solved c = let p = err_from_is_err_and c.from_residual.result c.from_residual.ensures.1 in rw (p.1, p.2) c.in_err-judge_solved.ensures
 
 pub returns : goal.returns
 returns c =
@@ -33,7 +33,7 @@ returns c =
     let places : c.places-places.result ≡ places_of b = c.places-places.ensures ∙ ap (λ (x : Board). places_of x) same in
     let f = c.in-Ok-solve_board.finished in
     let told = c.in-Ok-solve_board.ensures.solved in
-    let long : length f.table.now ≡ 2 * places_of b = omega (arith, told.1, c.as_mut_slice.ensures.len, c.in-Ok.ensures.made.1) in
+    let long : length f.table.now ≡ 2 * places_of b = omega (arith, told.1, c.as_mut_slice.ensures.len, c.in-Ok.ensures.len) in
     record {
       spots = c.spots.ensures ∙ ap (λ (x : Board). spots_of x) same;
       gates = ap length c.gates.ensures ∙ ap (λ (x : Board). length (gates_of x)) same;

@@ -1,4 +1,4 @@
-use Rattle.std.proofs.Common.{inl, rules}
+use Rattle.std.proofs.Common.{rules}
 use Rattle.pursuit.proofs.Claiming.{whole_claim}
 use Rattle.report.proofs.Telling.{told_of_sheet}
 use Rattle.report.proofs.Wanting.{below_all}
