@@ -20,16 +20,16 @@ in_cases x [] zs h = inr h
 in_cases x (y ∷ ys) zs (inl e) = inl (inl e)
 in_cases x (y ∷ ys) zs (inr h) = elim (in_cases x ys zs h) [ inl i ↦ inl (inr i) | inr i ↦ inr i ]
 
-pub in_from_getD : (xs : List ℕ) (i : ℕ) → i < length xs → In (get_or xs i 0) xs
-in_from_getD [] i h = absurd (omega arith)
-in_from_getD (x ∷ xs) zero h = inl refl
-in_from_getD (x ∷ xs) (suc i) h = inr (in_from_getD xs i (omega arith))
+pub in_from_get_or : (xs : List ℕ) (i : ℕ) → i < length xs → In (get_or xs i 0) xs
+in_from_get_or [] i h = absurd (omega arith)
+in_from_get_or (x ∷ xs) zero h = inl refl
+in_from_get_or (x ∷ xs) (suc i) h = inr (in_from_get_or xs i (omega arith))
 
-pub getD_from_in : (x : ℕ) (xs : List ℕ) → In x xs → (i : ℕ) × (i < length xs) × (x ≡ get_or xs i 0)
-getD_from_in x [] h = absurd h
-getD_from_in x (y ∷ ys) (inl e) = (0, omega arith, sym e)
-getD_from_in x (y ∷ ys) (inr h) =
-    let r = getD_from_in x ys h in
+pub get_or_from_in : (x : ℕ) (xs : List ℕ) → In x xs → (i : ℕ) × (i < length xs) × (x ≡ get_or xs i 0)
+get_or_from_in x [] h = absurd h
+get_or_from_in x (y ∷ ys) (inl e) = (0, omega arith, sym e)
+get_or_from_in x (y ∷ ys) (inr h) =
+    let r = get_or_from_in x ys h in
     (suc r.0, omega (arith, r.1), r.2)
 
 pub in_map : (f : ℕ → ℕ) (y : ℕ) (xs : List ℕ) → In y (map f xs) → (x : ℕ) × In x xs × (f x ≡ y)

@@ -10,7 +10,7 @@ use Rattle.gated.specs.Places.{number, step_of, turn_of, pursuer_of, runner_of, 
 use Rattle.gated.proofs.Numbers.{runner_back, pursuer_back, turn_back, step_back, number_of_parts, turn_in}
 use Rattle.gated.proofs.Exits.{exits_in}
 use Rattle.endless.specs.Published.{In, Goes, PursuerMoves, RunnerMoves, PublishedStep}
-use Rattle.endless.proofs.Edges.{in_from_getD, getD_from_in, in_map, map_in, exit_goes, goes_exit}
+use Rattle.endless.proofs.Edges.{in_from_get_or, get_or_from_in, in_map, map_in, exit_goes, goes_exit}
 
 zero_or_one : (s : ℕ) → s < 2 → (s ≡ 0) ⊎ (s ≡ 1)
 zero_or_one zero h = inl refl
@@ -19,7 +19,7 @@ zero_or_one (suc (suc s)) h = absurd (omega arith)
 
 pub exit_below : (n : ℕ) (gates : List Gate) → all_join n gates ≡ true → (t spot e : ℕ) → spot < n → In e (exits_at gates t spot) → e < n
 exit_below n gates join t spot e h i =
-    let r = getD_from_in e (exits_at gates t spot) i in
+    let r = get_or_from_in e (exits_at gates t spot) i in
     omega (arith, r.2, exits_in n t spot gates join h r.0 r.1)
 
 module _ (n : ℕ) (after : ℕ → ℕ) (gates : List Gate) (some : 0 < n) (join : all_join n gates ≡ true) (p q : ℕ) where
@@ -75,12 +75,12 @@ module _ (n : ℕ) (after : ℕ → ℕ) (gates : List Gate) (some : 0 < n) (joi
 
   to : Step R p q → PublishedStep n after gates p q
   to s =
-      let h : In q (R.moves p) = subst (λ (x : ℕ). In x (R.moves p)) (sym s.2) (in_from_getD (R.moves p) s.0 s.1) in
+      let h : In q (R.moves p) = subst (λ (x : ℕ). In x (R.moves p)) (sym s.2) (in_from_get_or (R.moves p) s.0 s.1) in
       elim (zero_or_one (turn_of n p) (turn_in n p)) [ inl e ↦ inl (pursuer-to e h) | inr e ↦ inr (runner-to e h) ]
 
   -- a place to which an exit leads is reached by a step
   step_by : (f : ℕ → ℕ) (xs : List ℕ) (e : ℕ) → R.moves p ≡ map f xs → In e xs → f e ≡ q → Step R p q
-  step_by f xs e m i g = getD_from_in q (R.moves p) (subst (λ (ys : List ℕ). In q ys) (sym m) (subst (λ (x : ℕ). In x (map f xs)) g (map_in f e xs i)))
+  step_by f xs e m i g = get_or_from_in q (R.moves p) (subst (λ (ys : List ℕ). In q ys) (sym m) (subst (λ (x : ℕ). In x (map f xs)) g (map_in f e xs i)))
 
   back : PublishedStep n after gates p q → Step R p q
   back (inl m) =
