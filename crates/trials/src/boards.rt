@@ -75,8 +75,8 @@ fn two_spots_round_by_round(rt: HostRuntime) -> Result<(), Fail> {
     let mut table = [7; 32];
     let b = BLANK;
     assert!(rt; begin_table(&arena, &mut table).is_ok());
-    assert!(rt; &table[0..16] == &[0, b, b, 0, 0, b, b, 0, 0, b, b, 0, 0, b, b, 0]);
-    assert!(rt; &table[16..] == &[NONE; 16]);
+    assert!(rt; &table[0..16] == [0, b, b, 0, 0, b, b, 0, 0, b, b, 0, 0, b, b, 0].as_slice());
+    assert!(rt; &table[16..] == [NONE; 16].as_slice());
     assert!(rt;
         round_leaves(
             &arena,
@@ -124,6 +124,6 @@ fn two_spots_round_by_round(rt: HostRuntime) -> Result<(), Fail> {
     );
     assert!(rt; finish_table(&arena, &mut table).is_ok());
     let n = NONE;
-    assert!(rt; &table[16..] == &[n, 0, 0, n, n, 0, 0, n, n, 1, 1, n, n, 0, 0, n]);
+    assert!(rt; &table[16..] == [n, 0, 0, n, n, 0, 0, n, n, 1, 1, n, n, 0, 0, n].as_slice());
     Ok(())
 }

@@ -88,7 +88,7 @@ fn refused_rounds_change_nothing(rt: HostRuntime) -> Result<(), Fail> {
     assert!(rt; more == [Ok(1), Ok(0)]);
     assert_eq!(rt; finished.rounds(), 3);
     assert_eq!(rt; finished.looks(), 3);
-    assert!(rt; finished.words() == &[0, 1, 2, NONE, 0, 0]);
+    assert!(rt; finished.words() == [0, 1, 2, NONE, 0, 0].as_slice());
     Ok(())
 }
 
@@ -117,7 +117,7 @@ fn finish_waits_for_the_end(rt: HostRuntime) -> Result<(), Fail> {
     assert_eq!(rt; settled, Ok(()));
     assert_eq!(rt; finished.rounds(), 3);
     assert_eq!(rt; finished.looks(), 3);
-    assert!(rt; finished.words() == &[0, 1, 2, NONE, 0, 0]);
+    assert!(rt; finished.words() == [0, 1, 2, NONE, 0, 0].as_slice());
     Ok(())
 }
 
@@ -148,6 +148,6 @@ fn told_another_arena(rt: HostRuntime) -> Result<(), Fail> {
     let finished = run.finish(&stayer);
     assert_eq!(rt; own, Ok(1));
     assert_eq!(rt; other, Ok(0));
-    assert!(rt; finished.words() == &[0, 1, NEVER, NONE, 0, 1]);
+    assert!(rt; finished.words() == [0, 1, NEVER, NONE, 0, 1].as_slice());
     Ok(())
 }

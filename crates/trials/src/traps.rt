@@ -66,10 +66,10 @@ fn traps_piled_twice(rt: HostRuntime) -> Result<(), Fail> {
     assert!(rt; solve(&one, &mut table).is_ok());
     assert!(rt; judge(&one, &table).is_ok());
     assert!(rt; judge(&both, &table).is_err());
-    assert!(rt; &table[0..4] == &[0, 0, 3, 0]);
+    assert!(rt; &table[0..4] == [0, 0, 3, 0].as_slice());
     assert!(rt; solve(&both, &mut table).is_ok());
     assert!(rt; judge(&both, &table).is_ok());
     assert!(rt; judge(&one, &table).is_err());
-    assert!(rt; &table[0..16] == &[0; 16]);
+    assert!(rt; &table[0..16] == [0; 16].as_slice());
     Ok(())
 }
