@@ -4,6 +4,7 @@
 use anyhow::anyhow;
 use report::solve_sheet::{MOST_BYTES, solve_sheet};
 use std::io::Read;
+use std::process::ExitCode;
 
 // Whether the sheet was solved; a refused one was told.
 fn run(rt: &HostRuntime) -> anyhow::Result<bool> {
@@ -27,10 +28,10 @@ fn run(rt: &HostRuntime) -> anyhow::Result<bool> {
     }
 }
 
-fn main(rt: HostRuntime) -> anyhow::Result<()> {
-    match run(&rt) {
-        Ok(true) => Ok(()),
-        Ok(false) => Err(anyhow!("refused")),
-        Err(why) => Err(why),
+fn main(rt: HostRuntime) -> anyhow::Result<ExitCode> {
+    if run(&rt)? {
+        Ok(ExitCode::SUCCESS)
+    } else {
+        Ok(ExitCode::FAILURE)
     }
 }
