@@ -4,9 +4,10 @@
 usage: python3 tools/respell.py [--check]      at the top of the repository
 
 A name that begins with a small letter is written in snake case, one that begins with a capital in camel case. The names are
-those that specs/ and proofs/ declare with a dash; the names of goals, which the check makes, keep theirs. They are turned
-in .antt files, in .rt files outside strings, and between backquotes in .md files. Two names that would fall together
-in one module, or a name that another crate's source has, stop the script before anything is written.
+those that specs/ and proofs/ declare, or an import gives, with a dash; the names of goals, which the check makes, and those
+of the library keep theirs. They are turned in .antt files, in .rt files outside strings, and between backquotes in .md files
+but docs/PORT.md, which has the old names. Two names that would fall together in one file stop the script before anything is
+written, and a new name that stands elsewhere is told.
 """
 import os
 import re
@@ -14,9 +15,11 @@ import subprocess
 import sys
 
 WORD = r"[^\s(){}\[\],;.:\"`λ]+"
-HEAD = re.compile(r"^(?:(?:pub|abbrev|unfoldable|record|data|private|opaque) )*(" + WORD + r")(?: [({].*)? :(?: |$)", re.M)
+HEAD = re.compile(r"^ *(?:(?:pub|abbrev|unfoldable|record|data|private|opaque) )*(" + WORD + r")(?: [({].*)? :(?: |$)", re.M)
 TYPE = re.compile(r"^(?:pub )?(?:record|data) (" + WORD + r")", re.M)
 FIELD = re.compile(r"^ +pub (" + WORD + r") :", re.M)
+ALIAS = re.compile(r"^(?:ghost )?use .*", re.M)
+NAMED = re.compile(r" as (" + WORD + r")")
 GOAL = re.compile(r"^(?:abbrev )?pub (" + WORD + r") : goal\.", re.M)
 STRING = re.compile(r'"(?:[^"\\\n]|\\.)*"')
 
@@ -40,21 +43,23 @@ def spelled(name):
 
 def declared(text):
     goals = set(GOAL.findall(text))
-    return {n for n in HEAD.findall(text) + TYPE.findall(text) + FIELD.findall(text) if n not in goals}
+    aliases = [n for line in ALIAS.findall(text) for n in NAMED.findall(line)]
+    return {n for n in HEAD.findall(text) + TYPE.findall(text) + FIELD.findall(text) + aliases if n not in goals}
 
 
 def main(args):
-    own, per_file, goals = set(), {}, set()
-    for f in files(".antt"):
+    own, per_file, goals, library = set(), {}, set(), set()
+    for f in files(".antt", ".rt"):
         text = read(f)
-        names = declared(text)
+        names = declared(text) if f.endswith(".antt") else {n for line in ALIAS.findall(text) for n in NAMED.findall(line)}
         per_file[f] = names
         goals |= set(GOAL.findall(text))
         own |= {n for n in names if "-" in n and (n[0].isalpha() or n[0] == "_")}
+        library |= {n for line in re.findall(r"^(?:ghost )?use Rattle\.std\..*", text, re.M) for n in re.findall(WORD, line)}
     both = sorted(own & goals)
     for n in both:
         print(f"kept: {n} is a goal's name too")
-    turned = {n: spelled(n) for n in own if n not in goals}
+    turned = {n: spelled(n) for n in own if n not in goals and n not in library}
     bad = 0
     for f, names in per_file.items():
         made = {}
@@ -74,6 +79,8 @@ def main(args):
     turn = lambda text: token.sub(lambda m: turned[m.group(1)], text)
     count = 0
     for f in files(".antt", ".rt", ".md"):
+        if f == "docs/PORT.md":
+            continue
         text = read(f)
         if f.endswith(".antt"):
             new = turn(text)

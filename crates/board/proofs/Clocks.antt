@@ -10,30 +10,30 @@ use Rattle.board.specs.Clock.{LeastCommon, divided, Period}
 
 -- the first multiple of a that b divides is the least common one
 module _ (a b k : ℕ) (a-pos : 0 < a) (k-pos : 0 < k) (none : (j : ℕ) → 0 < j → j < k → a * j % b ≡ 0 → ⊥) (here : a * k % b ≡ 0) where
-  product-pos : 0 < a * k
-  product-pos = omega (arith, mul-le 1 1 a k a-pos k-pos)
+  product_pos : 0 < a * k
+  product_pos = omega (arith, mul-le 1 1 a k a-pos k-pos)
 
   module _ (m : ℕ) (m-a : m % a ≡ 0) (m-b : m % b ≡ 0) where
-    rest-a : m % (a * k) % a ≡ 0
-    rest-a = mod-mod_of_dvd a m (dvd-mul_right a k) ∙ m-a
+    rest_a : m % (a * k) % a ≡ 0
+    rest_a = mod-mod_of_dvd a m (dvd-mul_right a k) ∙ m-a
 
-    rest-b : m % (a * k) % b ≡ 0
-    rest-b = mod-mod_of_dvd b m (dvd_of_mod-eq-zero b here) ∙ m-b
+    rest_b : m % (a * k) % b ≡ 0
+    rest_b = mod-mod_of_dvd b m (dvd_of_mod-eq-zero b here) ∙ m-b
 
     many : m % (a * k) ≡ a * (m % (a * k) / a)
-    many = omega (arith, div-add-mod' (m % (a * k)) a, rest-a, mul_comm a (m % (a * k) / a))
+    many = omega (arith, div-add-mod' (m % (a * k)) a, rest_a, mul_comm a (m % (a * k) / a))
 
     fewer : m % (a * k) / a < k
-    fewer = lt_of_mul-lt-mul_left a (omega (arith, many, mod-lt m product-pos))
+    fewer = lt_of_mul-lt-mul_left a (omega (arith, many, mod-lt m product_pos))
 
     divides : m % (a * k) ≡ 0
     divides = elim (eq-zero-or-pos (m % (a * k) / a)) [
       | inl e ↦ many ∙ ap (λ x. a * x) e ∙ mul-zero a
-      | inr p ↦ absurd (none (m % (a * k) / a) p fewer (ap (λ x. x % b) (sym many) ∙ rest-b))
+      | inr p ↦ absurd (none (m % (a * k) / a) p fewer (ap (λ x. x % b) (sym many) ∙ rest_b))
     ]
 
   pub first_common : LeastCommon a b (a * k)
-  first_common = record { positive = product-pos; first = mul-mod_right a k; second = here; least = divides }
+  first_common = record { positive = product_pos; first = mul-mod_right a k; second = here; least = divides }
 
 -- the last multiple to try is b times a
 pub not_last : (a b k : ℕ) → k ≤ b → (a * k % b ≡ 0 → ⊥) → k < b

@@ -2,14 +2,14 @@
 use Rattle.std.specs.Prelude.{◌≡◌, ℕ, ◌<◌, List, [], ◌∷◌, length, Result, MatchResult}
 use Rattle.arena.specs.Game.{Game}
 use Rattle.arena.specs.Tables.{TrueTable, TrueFolded}
-use Rattle.arena.specs.Unfit.{Fits, Cause as Misfits, told as told-unfit}
+use Rattle.arena.specs.Unfit.{Fits, Cause as Misfits, told as told_unfit}
 use Rattle.checker.specs.Obeys.{ObeysAt}
 use Rattle.checker.specs.declared.refusal.CheckRefusal.{CheckRefusal}
 use Rattle.checker.specs.declared.refusal.CheckRefusal.TheVariants.{Misfit, Fault}
 
 -- the number of each refusal, and its values
 abbrev pub told : CheckRefusal → ℕ × List ℕ
-told (Misfit why) = told-unfit why
+told (Misfit why) = told_unfit why
 told (Fault p) = (19, p ∷ [])
 
 -- the table V is accepted: it has the size of a sound game, and its marks and both plans are so of whole plays, in the game and in every game that folds onto it

@@ -61,22 +61,22 @@ module _ (b : Board) where
   runs : 0 < T
   runs = b.clock.0
 
-  exits-same : (t spot : ℕ) → exits_at gates (reached T t) spot ≡ exits_at gates t spot
-  exits-same t spot = ap (λ x. exits_at gates x spot) (reached_is T runs t) ∙ ap (λ xs. spot ∷ xs) (fars_same gates T t spot b.clock.1)
+  exits_same : (t spot : ℕ) → exits_at gates (reached T t) spot ≡ exits_at gates t spot
+  exits_same t spot = ap (λ x. exits_at gates x spot) (reached_is T runs t) ∙ ap (λ xs. spot ∷ xs) (fars_same gates T t spot b.clock.1)
 
   -- the fold of a number
-  fold-number : (t s c r : ℕ) → s < 2 → c < n → r < n → fold b (number n t s c r) ≡ number n (reached T t) s c r
-  fold-number t s c r s-in c-in r-in =
-      ap (λ x. number n (reached T x) (turn_of n (number n t s c r)) (pursuer_of n (number n t s c r)) (runner_of n (number n t s c r))) (step_back n t s c r s-in c-in r-in)
-      ∙ ap (λ x. number n (reached T t) x (pursuer_of n (number n t s c r)) (runner_of n (number n t s c r))) (turn_back n t s c r s-in c-in r-in)
-      ∙ ap (λ x. number n (reached T t) s x (runner_of n (number n t s c r))) (pursuer_back n t s c r s-in c-in r-in)
-      ∙ ap (λ x. number n (reached T t) s c x) (runner_back n t s c r s-in c-in r-in)
+  fold_number : (t s c r : ℕ) → s < 2 → c < n → r < n → fold b (number n t s c r) ≡ number n (reached T t) s c r
+  fold_number t s c r s-in c_in r_in =
+      ap (λ x. number n (reached T x) (turn_of n (number n t s c r)) (pursuer_of n (number n t s c r)) (runner_of n (number n t s c r))) (step_back n t s c r s-in c_in r_in)
+      ∙ ap (λ x. number n (reached T t) x (pursuer_of n (number n t s c r)) (runner_of n (number n t s c r))) (turn_back n t s c r s-in c_in r_in)
+      ∙ ap (λ x. number n (reached T t) s x (runner_of n (number n t s c r))) (pursuer_back n t s c r s-in c_in r_in)
+      ∙ ap (λ x. number n (reached T t) s c x) (runner_back n t s c r s-in c_in r_in)
 
   -- the fold of a move is the move of the fold
-  fold-moved : (s : Player) (t c r e : ℕ) → c < n → r < n → e < n → moved n (next T) s (reached T t) c r e ≡ fold b (moved n (λ u. u + 1) s t c r e)
-  fold-moved Pursuer t c r e c-in r-in e-in = sym (fold-number t 1 e r (omega arith) e-in r-in)
-  fold-moved Runner t c r e c-in r-in e-in =
-      ap (λ y. number n y 0 c e) (ap (reached T) (sym (add-one t))) ∙ sym (fold-number (t + 1) 0 c e (omega arith) c-in e-in)
+  fold_moved : (s : Player) (t c r e : ℕ) → c < n → r < n → e < n → moved n (next T) s (reached T t) c r e ≡ fold b (moved n (λ u. u + 1) s t c r e)
+  fold_moved Pursuer t c r e c_in r_in e-in = sym (fold_number t 1 e r (omega arith) e-in r_in)
+  fold_moved Runner t c r e c_in r_in e-in =
+      ap (λ y. number n y 0 c e) (ap (reached T) (sym (add-one t))) ∙ sym (fold_number (t + 1) 0 c e (omega arith) c_in e-in)
 
   module _ (x : ℕ) where
     abbrev t : ℕ
@@ -91,52 +91,52 @@ module _ (b : Board) where
     abbrev r : ℕ
     r = runner_of n x
 
-    c-in : c < n
-    c-in = mod_below _ n some
+    c_in : c < n
+    c_in = mod_below _ n some
 
-    r-in : r < n
-    r-in = mod_below _ n some
+    r_in : r < n
+    r_in = mod_below _ n some
 
-    turn-same : turn_of n (fold b x) ≡ turn_of n x
-    turn-same = turn_back n (reached T t) (turn_of n x) c r (turn_in n x) c-in r-in
+    turn_same : turn_of n (fold b x) ≡ turn_of n x
+    turn_same = turn_back n (reached T t) (turn_of n x) c r (turn_in n x) c_in r_in
 
     step_same : step_of n (fold b x) ≡ reached T t
-    step_same = step_back n (reached T t) (turn_of n x) c r (turn_in n x) c-in r-in
+    step_same = step_back n (reached T t) (turn_of n x) c r (turn_in n x) c_in r_in
 
-    pursuer-same : pursuer_of n (fold b x) ≡ c
-    pursuer-same = pursuer_back n (reached T t) (turn_of n x) c r (turn_in n x) c-in r-in
+    pursuer_same : pursuer_of n (fold b x) ≡ c
+    pursuer_same = pursuer_back n (reached T t) (turn_of n x) c r (turn_in n x) c_in r_in
 
     pub runner_same : runner_of n (fold b x) ≡ r
-    runner_same = runner_back n (reached T t) (turn_of n x) c r (turn_in n x) c-in r-in
+    runner_same = runner_back n (reached T t) (turn_of n x) c r (turn_in n x) c_in r_in
 
-    lists-same : (game_of b).rules.moves (fold b x) ≡ map (fold b) ((endless_rules b).moves x)
-    lists-same =
+    lists_same : (game_of b).rules.moves (fold b x) ≡ map (fold b) ((endless_rules b).moves x)
+    lists_same =
         let f = moved n (next T) s (reached T t) c r in
         let g = moved n (λ u. u + 1) s t c r in
         let spot = mover s c r in
-        ap (λ y. moves_by n (next T) (exits_at gates) (player y) (step_of n (fold b x)) (pursuer_of n (fold b x)) (runner_of n (fold b x))) turn-same
+        ap (λ y. moves_by n (next T) (exits_at gates) (player y) (step_of n (fold b x)) (pursuer_of n (fold b x)) (runner_of n (fold b x))) turn_same
         ∙ ap (λ y. moves_by n (next T) (exits_at gates) s y (pursuer_of n (fold b x)) (runner_of n (fold b x))) step_same
-        ∙ ap (λ y. moves_by n (next T) (exits_at gates) s (reached T t) y (runner_of n (fold b x))) pursuer-same
+        ∙ ap (λ y. moves_by n (next T) (exits_at gates) s (reached T t) y (runner_of n (fold b x))) pursuer_same
         ∙ ap (λ y. moves_by n (next T) (exits_at gates) s (reached T t) c y) runner_same
-        ∙ ap (map f) (exits-same t spot)
+        ∙ ap (map f) (exits_same t spot)
         ∙ map_same f (λ e. fold b (g e)) (exits_at gates t spot)
-        (λ e i. fold-moved s t c r e c-in r-in (exit_below n gates b.lawful.1 t spot e (mover_in n s c r c-in r-in) i))
+        (λ e i. fold_moved s t c r e c_in r_in (exit_below n gates b.lawful.1 t spot e (mover_in n s c r c_in r_in) i))
         ∙ sym (map_twice (fold b) g (exits_at gates t spot))
 
-    fold-below : fold b x < places n T
-    fold-below = number_below n (reached T t) (turn_of n x) c r (turn_in n x) c-in r-in T (rw (reached_is T runs t) (mod_below t T runs))
+    fold_below : fold b x < places n T
+    fold_below = number_below n (reached T t) (turn_of n x) c r (turn_in n x) c_in r_in T (rw (reached_is T runs t) (mod_below t T runs))
 
     -- whole rounds of the clock stay in front
     shift : (a k y m z : ℕ) → (a * k + y) * m + z ≡ a * (k * m) + (y * m + z)
     shift a k y m z = omega (arith, add-mul (a * k) y m, mul_assoc a k m)
 
-    fold-rest : fold b x ≡ x % places n T
-    fold-rest =
+    fold_rest : fold b x ≡ x % places n T
+    fold_rest =
         let a = t / T in
         let u = t % T in
         let v = turn_of n x in
         let here : fold b x ≡ number n u v c r = ap (λ y. number n y v c r) (reached_is T runs t) in
-        let below : number n u v c r < places n T = number_below n u v c r (turn_in n x) c-in r-in T (mod_below t T runs) in
+        let below : number n u v c r < places n T = number_below n u v c r (turn_in n x) c_in r_in T (mod_below t T runs) in
         let whole : a * places n T + number n u v c r ≡ x =
         sym (shift a (T * 2 * n) ((u * 2 + v) * n + c) n r)
         ∙ ap (λ y. y * n + r) (sym (shift a (T * 2) (u * 2 + v) n c))
@@ -147,10 +147,10 @@ module _ (b : Board) where
 
   folds : Folds (endless_rules b) (game_of b).rules (fold b)
   folds = record {
-    owners = λ x. ap player (sym (turn-same x));
-    captures = λ x. ap (λ y. eqb y (runner_of n x)) (sym (pursuer-same x)) ∙ ap (eqb (pursuer_of n (fold b x))) (sym (runner_same x));
-    lists = lists-same;
+    owners = λ x. ap player (sym (turn_same x));
+    captures = λ x. ap (λ y. eqb y (runner_of n x)) (sym (pursuer_same x)) ∙ ap (eqb (pursuer_of n (fold b x))) (sym (runner_same x));
+    lists = lists_same;
   }
 
   pub folded : Folded b
-  folded = record { folds = folds; below = fold-below; rest = fold-rest; clock_rest = reached_is T runs }
+  folded = record { folds = folds; below = fold_below; rest = fold_rest; clock_rest = reached_is T runs }

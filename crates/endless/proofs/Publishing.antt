@@ -35,48 +35,48 @@ module _ (n : ℕ) (after : ℕ → ℕ) (gates : List Gate) (some : 0 < n) (joi
   abbrev r : ℕ
   r = runner_of n p
 
-  c-in : c < n
-  c-in = mod_below _ n some
+  c_in : c < n
+  c_in = mod_below _ n some
 
-  r-in : r < n
-  r-in = mod_below _ n some
+  r_in : r < n
+  r_in = mod_below _ n some
 
-  at-pursuer : turn_of n p ≡ 0 → R.moves p ≡ map (moved n after Pursuer t c r) (exits_at gates t c)
-  at-pursuer e = ap (λ s. moves_by n after (exits_at gates) (player s) t c r) e
+  at_pursuer : turn_of n p ≡ 0 → R.moves p ≡ map (moved n after Pursuer t c r) (exits_at gates t c)
+  at_pursuer e = ap (λ s. moves_by n after (exits_at gates) (player s) t c r) e
 
-  at-runner : turn_of n p ≡ 1 → R.moves p ≡ map (moved n after Runner t c r) (exits_at gates t r)
-  at-runner e = ap (λ s. moves_by n after (exits_at gates) (player s) t c r) e
+  at_runner : turn_of n p ≡ 1 → R.moves p ≡ map (moved n after Runner t c r) (exits_at gates t r)
+  at_runner e = ap (λ s. moves_by n after (exits_at gates) (player s) t c r) e
 
-  pursuer-to : turn_of n p ≡ 0 → In q (R.moves p) → PursuerMoves n gates p q
-  pursuer-to turn h =
-      let m = in_map (moved n after Pursuer t c r) q (exits_at gates t c) (subst (λ (xs : List ℕ). In q xs) (at-pursuer turn) h) in
-      let e-in : m.0 < n = exit_below n gates join t c m.0 c-in m.1 in
+  pursuer_to : turn_of n p ≡ 0 → In q (R.moves p) → PursuerMoves n gates p q
+  pursuer_to turn h =
+      let m = in_map (moved n after Pursuer t c r) q (exits_at gates t c) (subst (λ (xs : List ℕ). In q xs) (at_pursuer turn) h) in
+      let e-in : m.0 < n = exit_below n gates join t c m.0 c_in m.1 in
       let one : 1 < 2 = omega arith in
       record {
         turn = turn;
-        turn_passes = ap (turn_of n) (sym m.2) ∙ turn_back n t 1 m.0 r one e-in r-in;
-        step_kept = ap (step_of n) (sym m.2) ∙ step_back n t 1 m.0 r one e-in r-in;
-        runner_kept = ap (runner_of n) (sym m.2) ∙ runner_back n t 1 m.0 r one e-in r-in;
-        goes = subst (λ (v : ℕ). Goes gates t c v) (sym (ap (pursuer_of n) (sym m.2) ∙ pursuer_back n t 1 m.0 r one e-in r-in)) (exit_goes gates t c m.0 m.1);
+        turn_passes = ap (turn_of n) (sym m.2) ∙ turn_back n t 1 m.0 r one e-in r_in;
+        step_kept = ap (step_of n) (sym m.2) ∙ step_back n t 1 m.0 r one e-in r_in;
+        runner_kept = ap (runner_of n) (sym m.2) ∙ runner_back n t 1 m.0 r one e-in r_in;
+        goes = subst (λ (v : ℕ). Goes gates t c v) (sym (ap (pursuer_of n) (sym m.2) ∙ pursuer_back n t 1 m.0 r one e-in r_in)) (exit_goes gates t c m.0 m.1);
       }
 
-  runner-to : turn_of n p ≡ 1 → In q (R.moves p) → RunnerMoves n after gates p q
-  runner-to turn h =
-      let m = in_map (moved n after Runner t c r) q (exits_at gates t r) (subst (λ (xs : List ℕ). In q xs) (at-runner turn) h) in
-      let e-in : m.0 < n = exit_below n gates join t r m.0 r-in m.1 in
+  runner_to : turn_of n p ≡ 1 → In q (R.moves p) → RunnerMoves n after gates p q
+  runner_to turn h =
+      let m = in_map (moved n after Runner t c r) q (exits_at gates t r) (subst (λ (xs : List ℕ). In q xs) (at_runner turn) h) in
+      let e-in : m.0 < n = exit_below n gates join t r m.0 r_in m.1 in
       let two : 0 < 2 = omega arith in
       record {
         turn = turn;
-        turn_passes = ap (turn_of n) (sym m.2) ∙ turn_back n (after t) 0 c m.0 two c-in e-in;
-        step_on = ap (step_of n) (sym m.2) ∙ step_back n (after t) 0 c m.0 two c-in e-in;
-        pursuer_kept = ap (pursuer_of n) (sym m.2) ∙ pursuer_back n (after t) 0 c m.0 two c-in e-in;
-        goes = subst (λ (v : ℕ). Goes gates t r v) (sym (ap (runner_of n) (sym m.2) ∙ runner_back n (after t) 0 c m.0 two c-in e-in)) (exit_goes gates t r m.0 m.1);
+        turn_passes = ap (turn_of n) (sym m.2) ∙ turn_back n (after t) 0 c m.0 two c_in e-in;
+        step_on = ap (step_of n) (sym m.2) ∙ step_back n (after t) 0 c m.0 two c_in e-in;
+        pursuer_kept = ap (pursuer_of n) (sym m.2) ∙ pursuer_back n (after t) 0 c m.0 two c_in e-in;
+        goes = subst (λ (v : ℕ). Goes gates t r v) (sym (ap (runner_of n) (sym m.2) ∙ runner_back n (after t) 0 c m.0 two c_in e-in)) (exit_goes gates t r m.0 m.1);
       }
 
   to : Step R p q → PublishedStep n after gates p q
   to s =
       let h : In q (R.moves p) = subst (λ (x : ℕ). In x (R.moves p)) (sym s.2) (in_from_get_or (R.moves p) s.0 s.1) in
-      elim (zero_or_one (turn_of n p) (turn_in n p)) [ inl e ↦ inl (pursuer-to e h) | inr e ↦ inr (runner-to e h) ]
+      elim (zero_or_one (turn_of n p) (turn_in n p)) [ inl e ↦ inl (pursuer_to e h) | inr e ↦ inr (runner_to e h) ]
 
   -- a place to which an exit leads is reached by a step
   step_by : (f : ℕ → ℕ) (xs : List ℕ) (e : ℕ) → R.moves p ≡ map f xs → In e xs → f e ≡ q → Step R p q
@@ -84,13 +84,13 @@ module _ (n : ℕ) (after : ℕ → ℕ) (gates : List Gate) (some : 0 < n) (joi
 
   back : PublishedStep n after gates p q → Step R p q
   back (inl m) =
-      step_by (moved n after Pursuer t c r) (exits_at gates t c) (pursuer_of n q) (at-pursuer m.turn) (goes_exit gates t c (pursuer_of n q) m.goes)
+      step_by (moved n after Pursuer t c r) (exits_at gates t c) (pursuer_of n q) (at_pursuer m.turn) (goes_exit gates t c (pursuer_of n q) m.goes)
       (ap (λ x. number n x 1 (pursuer_of n q) r) (sym m.step_kept)
       ∙ ap (λ x. number n (step_of n q) x (pursuer_of n q) r) (sym m.turn_passes)
       ∙ ap (λ x. number n (step_of n q) (turn_of n q) (pursuer_of n q) x) (sym m.runner_kept)
       ∙ number_of_parts n q)
   back (inr m) =
-      step_by (moved n after Runner t c r) (exits_at gates t r) (runner_of n q) (at-runner m.turn) (goes_exit gates t r (runner_of n q) m.goes)
+      step_by (moved n after Runner t c r) (exits_at gates t r) (runner_of n q) (at_runner m.turn) (goes_exit gates t r (runner_of n q) m.goes)
       (ap (λ x. number n x 0 c (runner_of n q)) (sym m.step_on)
       ∙ ap (λ x. number n (step_of n q) x c (runner_of n q)) (sym m.turn_passes)
       ∙ ap (λ x. number n (step_of n q) (turn_of n q) x (runner_of n q)) (sym m.pursuer_kept)

@@ -7,30 +7,30 @@ use Rattle.board.specs.Gates.{places}
 use Rattle.board.proofs.Limits.{before}
 use Rattle.gated.specs.Places.{number, runner_of, pursuer_of, turn_of, step_of, next, mover, moved}
 
-module _ (n t s c r : ℕ) (s-in : s < 2) (c-in : c < n) (r-in : r < n) where
+module _ (n t s c r : ℕ) (s-in : s < 2) (c_in : c < n) (r_in : r < n) where
   over : number n t s c r / n ≡ (t * 2 + s) * n + c
-  over = div-mul-add ((t * 2 + s) * n + c) n r r-in
+  over = div-mul-add ((t * 2 + s) * n + c) n r r_in
 
-  over-two : number n t s c r / n / n ≡ t * 2 + s
-  over-two = ap (λ x. x / n) over ∙ div-mul-add (t * 2 + s) n c c-in
+  over_two : number n t s c r / n / n ≡ t * 2 + s
+  over_two = ap (λ x. x / n) over ∙ div-mul-add (t * 2 + s) n c c_in
 
   pub runner_back : runner_of n (number n t s c r) ≡ r
-  runner_back = mod-mul-add ((t * 2 + s) * n + c) n r r-in
+  runner_back = mod-mul-add ((t * 2 + s) * n + c) n r r_in
 
   pub pursuer_back : pursuer_of n (number n t s c r) ≡ c
-  pursuer_back = ap (λ x. x % n) over ∙ mod-mul-add (t * 2 + s) n c c-in
+  pursuer_back = ap (λ x. x % n) over ∙ mod-mul-add (t * 2 + s) n c c_in
 
   pub turn_back : turn_of n (number n t s c r) ≡ s
-  turn_back = ap (λ x. x % 2) over-two ∙ mod-mul-add t 2 s s-in
+  turn_back = ap (λ x. x % 2) over_two ∙ mod-mul-add t 2 s s-in
 
   pub step_back : step_of n (number n t s c r) ≡ t
-  step_back = ap (λ x. x / 2) over-two ∙ div-mul-add t 2 s s-in
+  step_back = ap (λ x. x / 2) over_two ∙ div-mul-add t 2 s s-in
 
   pub number_below : (T : ℕ) → t < T → number n t s c r < places n T
   number_below T h =
       let a : t * 2 + s < T * 2 = omega arith in
-      let b : (t * 2 + s) * n + c < T * 2 * n = omega (arith, mul-add-lt (t * 2 + s) n c (T * 2) a c-in, mul_comm n (T * 2)) in
-      omega (arith, mul-add-lt ((t * 2 + s) * n + c) n r (T * 2 * n) b r-in, mul_comm n (T * 2 * n))
+      let b : (t * 2 + s) * n + c < T * 2 * n = omega (arith, mul-add-lt (t * 2 + s) n c (T * 2) a c_in, mul_comm n (T * 2)) in
+      omega (arith, mul-add-lt ((t * 2 + s) * n + c) n r (T * 2 * n) b r_in, mul_comm n (T * 2 * n))
 
 pub number_of_parts : (n p : ℕ) → number n (step_of n p) (turn_of n p) (pursuer_of n p) (runner_of n p) ≡ p
 number_of_parts n p =
@@ -51,8 +51,8 @@ mover_in n Runner c r h i = i
 
 -- a move leads to a place
 pub moved_below : (n T : ℕ) (s : Player) (t c r e : ℕ) → 0 < T → t < T → c < n → r < n → e < n → moved n (next T) s t c r e < places n T
-moved_below n T Pursuer t c r e run h c-in r-in e-in = number_below n t 1 e r (omega arith) e-in r-in T h
-moved_below n T Runner t c r e run h c-in r-in e-in = number_below n (next T t) 0 c e (omega arith) c-in e-in T (mod_below (t + 1) T run)
+moved_below n T Pursuer t c r e run h c_in r_in e-in = number_below n t 1 e r (omega arith) e-in r_in T h
+moved_below n T Runner t c r e run h c_in r_in e-in = number_below n (next T t) 0 c e (omega arith) c_in e-in T (mod_below (t + 1) T run)
 
 -- no clock is longer than there are places
 pub period_small : (n T : ℕ) → 0 < n → places n T ≤ 1048576 → T ≤ 1048576

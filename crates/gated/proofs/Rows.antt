@@ -38,21 +38,21 @@ module _ (n T t spot : ℕ) (gates : List Gate) (t-in : t < T) (spot_in : spot <
       ap length (rows_next T gates (spot * T + t)) ∙ length-append (rows T gates (spot * T + t)) (row T gates (spot * T + t))
       ∙ ap (λ x. length (rows T gates (spot * T + t)) + length x) (row_is T gates t spot t-in)
 
-  row-stands : (rest : List ℕ) × (rows T gates (n * T) ≡ rows T gates (spot * T + t) ++ (exits_at gates t spot ++ rest))
-  row-stands =
+  row_stands : (rest : List ℕ) × (rows T gates (n * T) ≡ rows T gates (spot * T + t) ++ (exits_at gates t spot ++ rest))
+  row_stands =
       let s = rows_split T gates (n * T) (spot * T + t) row_in in
       (s.0, s.1 ∙ ap (λ x. rows T gates (spot * T + t) ++ (x ++ s.0)) (row_is T gates t spot t-in))
 
   exit_in : (j : ℕ) → j < length (exits_at gates t spot) → length (rows T gates (spot * T + t)) + j < length (rows T gates (n * T))
   exit_in j h =
-      let s = row-stands in
+      let s = row_stands in
       let e = ap length s.1 ∙ length-append (rows T gates (spot * T + t)) (exits_at gates t spot ++ s.0) in
       omega (arith, e, length-append (exits_at gates t spot) s.0)
 
-  exit-is : (j : ℕ) → j < length (exits_at gates t spot)
+  exit_is : (j : ℕ) → j < length (exits_at gates t spot)
       → get_or (rows T gates (n * T)) (length (rows T gates (spot * T + t)) + j) 0 ≡ get_or (exits_at gates t spot) j 0
-  exit-is j h =
-      let s = row-stands in
+  exit_is j h =
+      let s = row_stands in
       ap (λ x. get_or x (length (rows T gates (spot * T + t)) + j) 0) s.1
       ∙ get_or-append-add (rows T gates (spot * T + t)) (exits_at gates t spot ++ s.0) j 0
       ∙ get_or_append_left (exits_at gates t spot) s.0 0 j h
@@ -70,19 +70,19 @@ module _ (n T : ℕ) (gates : List Gate) (exits starts : List ℕ) (listed : Lis
       get_or_read_under starts j (length starts) x 0 r (omega (arith, many)) refl ∙ ap (λ xs. get_or xs j 0) listed.1
       ∙ get_or-map-range_with_len (λ i. length (rows T gates i)) 0 (n * T + 1) j j 0 h (omega arith)
 
-  starts-here : (x : ℕ) → x ≡ get_or starts k x → x ≡ length (rows T gates (spot * T + t))
-  starts-here x r = start_is k x (omega (arith, row_in n T t spot gates t-in spot_in)) r ∙ ap (λ j. length (rows T gates j)) at
+  starts_here : (x : ℕ) → x ≡ get_or starts k x → x ≡ length (rows T gates (spot * T + t))
+  starts_here x r = start_is k x (omega (arith, row_in n T t spot gates t-in spot_in)) r ∙ ap (λ j. length (rows T gates j)) at
 
   pub count_read : (x y : ℕ) → x ≡ get_or starts k x → y ≡ get_or starts (k + 1) y → y ≡ x + length (exits_at gates t spot)
   count_read x y r q =
       start_is (k + 1) y (omega (arith, row_in n T t spot gates t-in spot_in)) q ∙ ap (λ j. length (rows T gates (j + 1))) at ∙ row_ends n T t spot gates t-in spot_in
-      ∙ ap (λ z. z + length (exits_at gates t spot)) (sym (starts-here x r))
+      ∙ ap (λ z. z + length (exits_at gates t spot)) (sym (starts_here x r))
 
   pub exit_read_in : (x j : ℕ) → x ≡ get_or starts k x → j < length (exits_at gates t spot) → x + j < length exits
-  exit_read_in x j r h = omega (arith, starts-here x r, exit_in n T t spot gates t-in spot_in j h, ap length listed.0)
+  exit_read_in x j r h = omega (arith, starts_here x r, exit_in n T t spot gates t-in spot_in j h, ap length listed.0)
 
   pub exit_read : (x j v : ℕ) → x ≡ get_or starts k x → j < length (exits_at gates t spot) → v ≡ get_or exits (x + j) v → v ≡ get_or (exits_at gates t spot) j 0
   exit_read x j v r h q =
       get_or_read_under exits (x + j) (length exits) v 0 q (exit_read_in x j r h) refl
-      ∙ ap (λ xs. get_or xs (x + j) 0) listed.0 ∙ ap (λ y. get_or (rows T gates (n * T)) (y + j) 0) (starts-here x r)
-      ∙ exit-is n T t spot gates t-in spot_in j h
+      ∙ ap (λ xs. get_or xs (x + j) 0) listed.0 ∙ ap (λ y. get_or (rows T gates (n * T)) (y + j) 0) (starts_here x r)
+      ∙ exit_is n T t spot gates t-in spot_in j h

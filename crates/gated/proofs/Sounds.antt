@@ -22,14 +22,14 @@ places_pos n T some runs =
     omega (arith, mul-le 1 1 (T * 2 * n) n (omega arith) some)
 
 module _ (n T : ℕ) (gates : List Gate) (some : 0 < n) (runs : 0 < T) (few : length gates ≤ 256) (join : all_join n gates ≡ true) where
-  sound-at : (p : ℕ) → p < places n T → SoundAt (board_game n T gates) p
-  sound-at p h =
+  sound_at : (p : ℕ) → p < places n T → SoundAt (board_game n T gates) p
+  sound_at p h =
       let s = player (turn_of n p) in
       let t = step_of n p in
       let c = pursuer_of n p in
       let r = runner_of n p in
-      let c-in : c < n = mod_below _ n some in
-      let r-in : r < n = mod_below _ n some in
+      let c_in : c < n = mod_below _ n some in
+      let r_in : r < n = mod_below _ n some in
       let spot = mover s c r in
       let xs = exits_at gates t spot in
       let f : ℕ → ℕ = moved n (next T) s t c r in
@@ -38,14 +38,14 @@ module _ (n T : ℕ) (gates : List Gate) (some : 0 < n) (runs : 0 < T) (few : le
         (λ j i.
             let k : j < length xs = omega arith in
             subst (λ (x : ℕ). x < places n T) (sym (get_or-map f xs j 0 0 k))
-            (moved_below n T s t c r (get_or xs j 0) runs (step_in n T p some h) c-in r-in (exits_in n t spot gates join (mover_in n s c r c-in r-in) j k))),
+            (moved_below n T s t c r (get_or xs j 0) runs (step_in n T p some h) c_in r_in (exits_in n t spot gates join (mover_in n s c r c_in r_in) j k))),
         λ z. absurd (omega arith),
       )
 
 pub sound : (b : Board) → Sound (game_of b)
 sound b = (
   (places_pos (spots_of b) (period_of b) b.sized.0 b.clock.0, b.small),
-  sound-at (spots_of b) (period_of b) (gates_of b) b.sized.0 b.clock.0 b.lawful.0 b.lawful.1,
+  sound_at (spots_of b) (period_of b) (gates_of b) b.sized.0 b.clock.0 b.lawful.0 b.lawful.1,
 )
 
 pub inverse : (n T : ℕ) → 0 < n → Inverse n T

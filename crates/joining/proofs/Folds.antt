@@ -29,34 +29,34 @@ module _ {J : Type 0} {neutral : J} {joined : J → J → J} {single : ℕ → �
   total = folded neutral joined single
 
   -- words can hold every fold
-  total-holds : (first : ℕ) (xs : List ℕ) → holds (total first xs)
-  total-holds first [] = laws.neutral_holds
-  total-holds first (x ∷ xs) = laws.joined_holds _ _ (laws.single_holds _ _) (total-holds (first + 1) xs)
+  total_holds : (first : ℕ) (xs : List ℕ) → holds (total first xs)
+  total_holds first [] = laws.neutral_holds
+  total_holds first (x ∷ xs) = laws.joined_holds _ _ (laws.single_holds _ _) (total_holds (first + 1) xs)
 
   -- only the first position modulo 2 ^ 64 tells
-  total-wraps : (a b : ℕ) (xs : List ℕ) → a % 2 ^ 64 ≡ b % 2 ^ 64 → total a xs ≡ total b xs
-  total-wraps a b [] e = refl
-  total-wraps a b (x ∷ xs) e =
-      ap (λ p. joined (single x p) (total (a + 1) xs)) e ∙ ap (joined (single x (b % 2 ^ 64))) (total-wraps (a + 1) (b + 1) xs (omega arith))
+  total_wraps : (a b : ℕ) (xs : List ℕ) → a % 2 ^ 64 ≡ b % 2 ^ 64 → total a xs ≡ total b xs
+  total_wraps a b [] e = refl
+  total_wraps a b (x ∷ xs) e =
+      ap (λ p. joined (single x p) (total (a + 1) xs)) e ∙ ap (joined (single x (b % 2 ^ 64))) (total_wraps (a + 1) (b + 1) xs (omega arith))
 
   -- the law of the cut before positions wrap
-  cut-plain : (first : ℕ) (xs ys : List ℕ) → total first (xs ++ ys) ≡ joined (total first xs) (total (first + length xs) ys)
-  cut-plain first [] ys =
+  cut_plain : (first : ℕ) (xs ys : List ℕ) → total first (xs ++ ys) ≡ joined (total first xs) (total (first + length xs) ys)
+  cut_plain first [] ys =
       let here : first ≡ first + length {A = ℕ} [] = omega arith in
-      ap (λ p. total p ys) here ∙ sym (laws.left _ (total-holds _ ys))
-  cut-plain first (x ∷ xs) ys =
+      ap (λ p. total p ys) here ∙ sym (laws.left _ (total_holds _ ys))
+  cut_plain first (x ∷ xs) ys =
       let on : first + 1 + length xs ≡ first + length (x ∷ xs) = omega arith in
-      ap (joined (single x (first % 2 ^ 64))) (cut-plain (first + 1) xs ys ∙ ap (λ p. joined (total (first + 1) xs) (total p ys)) on) ∙ sym (laws.assoc _ _ _)
+      ap (joined (single x (first % 2 ^ 64))) (cut_plain (first + 1) xs ys ∙ ap (λ p. joined (total (first + 1) xs) (total p ys)) on) ∙ sym (laws.assoc _ _ _)
 
   -- the law of the cut
   pub total_cut : Cut neutral joined single
   total_cut first xs ys =
-      cut-plain first xs ys ∙ ap (joined (total first xs)) (total-wraps (first + length xs) ((first + length xs) % 2 ^ 64) ys (omega arith))
+      cut_plain first xs ys ∙ ap (joined (total first xs)) (total_wraps (first + length xs) ((first + length xs) % 2 ^ 64) ys (omega arith))
 
   -- one mark more at the end of a list
   pub total_push : (first : ℕ) (xs : List ℕ) (x : ℕ) → joined (total first xs) (single x ((first + length xs) % 2 ^ 64)) ≡ total first (xs ++ x ∷ [])
   total_push first xs x =
-      sym (cut-plain first xs (x ∷ []) ∙ ap (joined (total first xs)) (laws.right _ (laws.single_holds _ _)))
+      sym (cut_plain first xs (x ∷ []) ∙ ap (joined (total first xs)) (laws.right _ (laws.single_holds _ _)))
 
   -- one mark more of a list, as a loop over it takes them
   pub total_next : (first : ℕ) (xs : List ℕ) (i d : ℕ) → i < length xs → joined (total first (take i xs)) (single (get_or xs i d) ((first + i) % 2 ^ 64)) ≡ total first (take (i + 1) xs)

@@ -26,8 +26,8 @@ module _ (n : ℕ) (marks : List ℕ) where
       }
 
   module _ (k : ℕ) (best next : Opening) (before : OpensAmong k n marks best) (s : Starts n marks k next) where
-    last-is : (c m r : ℕ) → c ≡ k → Replies n marks c m r → next.mark ≡ m
-    last-is c m r e reply = replies_once n marks k next.mark m next.runner r s.replies (subst (λ (x : ℕ). Replies n marks x m r) e reply)
+    last_is : (c m r : ℕ) → c ≡ k → Replies n marks c m r → next.mark ≡ m
+    last_is c m r e reply = replies_once n marks k next.mark m next.runner r s.replies (subst (λ (x : ℕ). Replies n marks x m r) e reply)
 
     -- the next start is better
     pub next_start : next.mark < best.mark → OpensAmong (k + 1) n marks next
@@ -37,7 +37,7 @@ module _ (n : ℕ) (marks : List ℕ) where
           replies = subst (λ (c : ℕ). Replies n marks c next.mark next.runner) (sym s.pursuer) s.replies;
           least = λ c m r h reply. elim (dec_lt c k) [
             | yes y ↦ omega (arith, before.least c m r y reply)
-            | no z ↦ let same = last-is c m r (omega arith) reply in omega arith
+            | no z ↦ let same = last_is c m r (omega arith) reply in omega arith
           ];
           earliest = λ c m r h reply e. omega (arith, before.least c m r (omega (arith, s.pursuer)) reply);
           tallied = subst (λ (c : ℕ). TheOne (Tallied (row n marks c)) next.tally) (sym s.pursuer) s.tallied;
@@ -51,7 +51,7 @@ module _ (n : ℕ) (marks : List ℕ) where
           replies = before.replies;
           least = λ c m r h reply. elim (dec_lt c k) [
             | yes y ↦ before.least c m r y reply
-            | no z ↦ let same = last-is c m r (omega arith) reply in omega arith
+            | no z ↦ let same = last_is c m r (omega arith) reply in omega arith
           ];
           earliest = before.earliest;
           tallied = before.tallied;

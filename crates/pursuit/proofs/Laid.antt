@@ -9,7 +9,7 @@ use Rattle.arena.specs.declared.unfit.Unfit.{Unfit}
 use Rattle.board.specs.declared.board.Board.{Board}
 use Rattle.board.specs.Boards.{spots_of, period_of}
 use Rattle.board.specs.Gates.{places}
-use Rattle.checker.specs.Verdicts.{Accepted, Cause as Table-cause}
+use Rattle.checker.specs.Verdicts.{Accepted, Cause as TableCause}
 use Rattle.checker.specs.declared.refusal.CheckRefusal.{CheckRefusal}
 use Rattle.gated.specs.Games.{game_of}
 use Rattle.gated.specs.Places.{runner_of}
@@ -64,5 +64,5 @@ board_true b traps V g e told =
     let a = subst (λ (x : Game). Accepted x V) e told in
     record { fits = a.fits; so = a.so; endless = endless_so b traps V a.folded }
 
-pub fault_at : (g h : Game) (V : List ℕ) (e : CheckRefusal) → g ≡ h → Table-cause g V e → Table-cause h V e
-fault_at g h V e same cause = subst (λ (x : Game). Table-cause x V e) same cause
+pub fault_at : (g h : Game) (V : List ℕ) (e : CheckRefusal) → g ≡ h → TableCause g V e → TableCause h V e
+fault_at g h V e same cause = subst (λ (x : Game). TableCause x V e) same cause

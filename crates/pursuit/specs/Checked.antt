@@ -4,8 +4,8 @@ use Rattle.arena.specs.Tables.{TrueTable}
 use Rattle.arena.specs.Unfit.{Fits}
 use Rattle.board.specs.declared.board.Board.{Board}
 use Rattle.board.specs.Boards.{spots_of}
-use Rattle.checker.specs.Verdicts.{Cause as Table-cause, told as told-table}
-use Rattle.gated.specs.TrapRefused.{Cause as Trap-cause, told as told-traps}
+use Rattle.checker.specs.Verdicts.{Cause as TableCause, told as told_table}
+use Rattle.gated.specs.TrapRefused.{Cause as TrapCause, told as told_traps}
 use Rattle.pursuit.specs.Solved.{trapped_game, trapped_endless, TrueEndless}
 use Rattle.pursuit.specs.declared.fault.BoardFault.{BoardFault}
 use Rattle.pursuit.specs.declared.fault.BoardFault.TheVariants.{Traps, Table}
@@ -18,10 +18,10 @@ pub record BoardTrue (b : Board) (traps : List ℕ) (V : List ℕ) : Type 0 wher
 
 -- the number of each refusal, and its values; want of memory has no number
 abbrev pub told : BoardFault → ℕ × List ℕ
-told (Traps why) = told-traps why
-told (Table why) = told-table why
+told (Traps why) = told_traps why
+told (Table why) = told_table why
 
 -- why it is not: the traps cannot be laid, or the table is refused by the board's game with its traps
 abbrev pub Cause : Board → List ℕ → List ℕ → BoardFault → Type 0
-Cause b traps V (Traps why) = Trap-cause (spots_of b) traps why
-Cause b traps V (Table why) = Table-cause (trapped_game b traps) V why
+Cause b traps V (Traps why) = TrapCause (spots_of b) traps why
+Cause b traps V (Table why) = TableCause (trapped_game b traps) V why

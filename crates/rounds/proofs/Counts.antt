@@ -79,18 +79,18 @@ blanks_lt (suc n) W V s p l e f =
     ]
 
 module _ (g : Game) (i : ℕ) (small : i < blank) (W V : List ℕ) (round : Rounded g i W V) where
-  was-blank : (k : ℕ) → k < g.size → marks_of V k ≡ blank → marks_of W k ≡ blank
-  was-blank k l e = elim (round k l) [ inl d ↦ d.0 | inr d ↦ sym d.1 ∙ e ]
+  was_blank : (k : ℕ) → k < g.size → marks_of V k ≡ blank → marks_of W k ≡ blank
+  was_blank k l e = elim (round k l) [ inl d ↦ d.0 | inr d ↦ sym d.1 ∙ e ]
 
   -- a round makes no blank mark
   pub no_more : blanks g.size V ≤ blanks g.size W
-  no_more = blanks_le g.size W V was-blank
+  no_more = blanks_le g.size W V was_blank
 
   -- a round that marks none found no blank place ready
   pub none_ready : blanks g.size V ≡ blanks g.size W → (p : ℕ) → p < g.size → marks_of W p ≡ blank → Ready g.rules i W p → ⊥
   none_ready same p l e r =
       elim (round p l) [
-        | inl d ↦ omega (arith, blanks_lt g.size W V was-blank p l e (λ (b : marks_of V p ≡ blank). omega (arith, d.2)))
+        | inl d ↦ omega (arith, blanks_lt g.size W V was_blank p l e (λ (b : marks_of V p ≡ blank). omega (arith, d.2)))
         | inr d ↦ d.0 e r
       ]
 

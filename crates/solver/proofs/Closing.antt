@@ -21,8 +21,8 @@ use Rattle.solver.proofs.Kept.{Later, same_mark, marked_kept}
 
 module _ (g : Game) (sound : PlacesSound g) (r : ℕ) (small : r < blank) (W : List ℕ) (after : AfterRound g r W)
     (lasts : (i p : ℕ) → p < g.size → Level g.rules i p → Level g.rules r p) (V : List ℕ) (finish : Finished g W V) where
-  finish-later : Later g r W V
-  finish-later q lt = elim (finish q lt) [ inl d ↦ inr (d.0, omega (arith, d.1)) | inr d ↦ inl d.1 ]
+  finish_later : Later g r W V
+  finish_later q lt = elim (finish q lt) [ inl d ↦ inr (d.0, omega (arith, d.1)) | inr d ↦ inl d.1 ]
 
   -- a place whose mark stands, and one that had none
   pub Stands : ℕ → Type 0
@@ -37,7 +37,7 @@ module _ (g : Game) (sound : PlacesSound g) (r : ℕ) (small : r < blank) (W : L
       elim (after p lt) [
         | inl y ↦ elim (finish p lt) [
           | inl d ↦ absurd (omega (arith, y.within, d.0))
-          | inr d ↦ inl (marked_kept g sound r small W V finish-later after r (omega arith) p lt y d.1 d.2, y, d.1, d.2)
+          | inr d ↦ inl (marked_kept g sound r small W V finish_later after r (omega arith) p lt y d.1 d.2, y, d.1, d.2)
         ]
         | inr n ↦ elim (finish p lt) [ inl d ↦ inr (n.unmarked, d.1, n.outside, d.2) | inr d ↦ absurd (d.0 n.unmarked) ]
       ]
@@ -84,13 +84,13 @@ module _ (g : Game) (sound : PlacesSound g) (r : ℕ) (small : r < blank) (W : L
         | inl y ↦
             let (kl, e) = leads g sound r small W after p lt y.1 c in
             let q : ℕ = move g.rules p (moves_of g W p) in
-            let same = same_mark g sound r small W V finish-later q ((sound p lt).1 (moves_of g W p) kl) (omega (arith, y.1.within)) in
+            let same = same_mark g sound r small W V finish_later q ((sound p lt).1 (moves_of g W p) kl) (omega (arith, y.1.within)) in
             subst (λ (k : ℕ). marks_of V p ≡ suc (marks_of V (move g.rules p k))) (sym y.3) (omega (arith, y.2))
         | inr n ↦ absurd (omega (arith, n.1))
       ]
 
-  table-rules : TableRules g.rules (places g) (marks_of V) (moves_of g V)
-  table-rules p d =
+  table_rules : TableRules g.rules (places g) (marks_of V) (moves_of g V)
+  table_rules p d =
       let lt : p < g.size = ltb→lt p g.size d in
       let any = local g.rules (places g) (marks_of V) (sound_closed g sound) (sound_nonstop g sound) by_levels in
       let here = any.1 p d in
@@ -109,9 +109,9 @@ module _ (g : Game) (sound : PlacesSound g) (r : ℕ) (small : r < blank) (W : L
       }
 
   -- a place whose first level is k has the mark k
-  first-mark : (p k : ℕ) → p < g.size → First g.rules p k → marks_of V p ≡ k
+  first_mark : (p k : ℕ) → p < g.size → First g.rules p k → marks_of V p ≡ k
   unfolding Stands Closes
-  first-mark p k lt f =
+  first_mark p k lt f =
       elim (either p lt) [
         | inl y ↦ first_once g.rules p (marks_of V p) k y.0.first f
         | inr n ↦ absurd (n.2 (lasts k p lt f.0))
@@ -119,7 +119,7 @@ module _ (g : Game) (sound : PlacesSound g) (r : ℕ) (small : r < blank) (W : L
 
   taken : (K : ℕ) → ((i : ℕ) → i < K → (p : ℕ) × (p < g.size) × First g.rules p (suc i)) → (K ≡ 0) ⊎ ((p : ℕ) × (p < g.size) × (marks_of V p ≡ K))
   taken zero grew = inl refl
-  taken (suc i) grew = let (p, lt, f) = grew i (omega arith) in inr (p, lt, first-mark p (suc i) lt f)
+  taken (suc i) grew = let (p, lt, f) = grew i (omega arith) in inr (p, lt, first_mark p (suc i) lt f)
 
   -- the longest count is the last level that grew
   longest : (K : ℕ) → ((i p : ℕ) → p < g.size → Level g.rules i p → Level g.rules K p) → ((i : ℕ) → i < K → (p : ℕ) × (p < g.size) × First g.rules p (suc i)) → LongestCount g (marks_of V) K
@@ -133,10 +133,10 @@ module _ (g : Game) (sound : PlacesSound g) (r : ℕ) (small : r < blank) (W : L
   pub whole : (K looks : ℕ) → ((i p : ℕ) → p < g.size → Level g.rules i p → Level g.rules K p) → ((i : ℕ) → i < K → (p : ℕ) × (p < g.size) × First g.rules p (suc i))
       → r ≡ suc K → ((μ : ℕ → ℕ) → ByLevels g.rules (places g) μ → looks ≡ looks_sum g μ r) → Whole g r looks V
   whole K looks top grew e looked = record {
-    claims = claims g.rules (places g) (marks_of V) (moves_of g V) (sound_closed g sound) table-rules;
-    folded = λ R φ folds. claims_up R g.rules φ folds (places g) (sound_closed g sound) (marks_of V) (moves_of g V) table-rules;
+    claims = claims g.rules (places g) (marks_of V) (moves_of g V) (sound_closed g sound) table_rules;
+    folded = λ R φ folds. claims_up R g.rules φ folds (places g) (sound_closed g sound) (marks_of V) (moves_of g V) table_rules;
     levels = by_levels;
-    labels = labelled g.rules (places g) (marks_of V) (moves_of g V) (sound_closed g sound) table-rules;
+    labels = labelled g.rules (places g) (marks_of V) (moves_of g V) (sound_closed g sound) table_rules;
     attractor = attractor g.rules (places g) (marks_of V) by_levels;
     best = best;
     settled = (K, longest K top grew, e);

@@ -60,8 +60,8 @@ module _ (g : Game) (sound : PlacesSound g) (j : ℕ) (small : j < blank) (W V :
       }
 
 module _ (g : Game) (sound : PlacesSound g) (j : ℕ) (small : suc j < blank) (W V : List ℕ) (after : AfterRound g j W) (round : Rounded g (suc j) W V) where
-  round-later : Later g j W V
-  round-later q lt = elim (round q lt) [ inl d ↦ inr (d.0, omega (arith, d.2)) | inr d ↦ inl d.1 ]
+  round_later : Later g j W V
+  round_later q lt = elim (round q lt) [ inl d ↦ inr (d.0, omega (arith, d.2)) | inr d ↦ inl d.1 ]
 
   -- one round more
   pub next_after : AfterRound g (suc j) V
@@ -70,7 +70,7 @@ module _ (g : Game) (sound : PlacesSound g) (j : ℕ) (small : suc j < blank) (W
       elim (after p lt) [
         | inl y ↦ elim (round p lt) [
           | inl d ↦ absurd (omega (arith, y.within, d.0))
-          | inr d ↦ inl (marked_kept g sound j below W V round-later after (suc j) (omega arith) p lt y d.1 d.2)
+          | inr d ↦ inl (marked_kept g sound j below W V round_later after (suc j) (omega arith) p lt y d.1 d.2)
         ]
         | inr n ↦ elim (round p lt) [
           | inl d ↦
@@ -80,7 +80,7 @@ module _ (g : Game) (sound : PlacesSound g) (j : ℕ) (small : suc j < blank) (W
                 within = omega (arith, d.2);
                 first = subst (λ (k : ℕ). First g.rules p k) (sym d.2) f;
                 idle = λ c. absurd (n.outside (level_mono g.rules j 0 p c (omega arith)));
-                best = λ c. best_kept g sound j below W V round-later p (moves_of g V p) lt d.1 d.3;
+                best = λ c. best_kept g sound j below W V round_later p (moves_of g V p) lt d.1 d.3;
               })
           | inr d ↦
               inr (record {

@@ -98,8 +98,8 @@ module _ (g : Game) (sound : PlacesSound g) (j : ℕ) (small : j < blank) (W : L
         let (i, e, r) = added (marks_of W p) p marked.first c in
         is_ready i p lt (omega (arith, marked.within)) r
 
-    leads-by : (i k : ℕ) → marks_of W p ≡ suc i → k < degree g.rules p → Grows g.rules (λ q. Level g.rules i q) p → Best g.rules (marks_of W) p k → marks_of W (move g.rules p k) ≡ i
-    leads-by i k e kl (inl r) best =
+    leads_by : (i k : ℕ) → marks_of W p ≡ suc i → k < degree g.rules p → Grows g.rules (λ q. Level g.rules i q) p → Best g.rules (marks_of W) p k → marks_of W (move g.rules p k) ≡ i
+    leads_by i k e kl (inl r) best =
         let b = best_of g.rules (marks_of W) p k Pursuer r.0 best in
         let q : ℕ = move g.rules p k in
         let ql : q < g.size = (sound p lt).1 k kl in
@@ -109,7 +109,7 @@ module _ (g : Game) (sound : PlacesSound g) (j : ℕ) (small : j < blank) (W : L
           | yes y ↦ absurd (marked.first.1 (suc (marks_of W q)) (omega arith) (inr (inl (r.0, (k, kl, in_level q ql (omega (arith, marked.within)))))))
           | no z ↦ omega arith
         ]
-    leads-by i k e kl (inr r) best =
+    leads_by i k e kl (inr r) best =
         let b = best_of g.rules (marks_of W) p k Runner r.0 best in
         let q : ℕ = move g.rules p k in
         let known : (x : ℕ) → x < degree g.rules p → marks_of W (move g.rules p x) ≤ i = λ x xl. has_mark i (move g.rules p x) ((sound p lt).1 x xl) (omega (arith, marked.within)) (r.1 x xl) in
@@ -131,5 +131,5 @@ module _ (g : Game) (sound : PlacesSound g) (j : ℕ) (small : j < blank) (W : L
         let (i, e, r) = added (marks_of W p) p marked.first c in
         let best = marked.best c in
         let kl : moves_of g W p < degree g.rules p = best.within (sound_moves g sound p lt c) in
-        let there : marks_of W (move g.rules p (moves_of g W p)) ≡ i = leads-by i (moves_of g W p) e kl r best in
+        let there : marks_of W (move g.rules p (moves_of g W p)) ≡ i = leads_by i (moves_of g W p) e kl r best in
         (kl, omega arith)

@@ -20,15 +20,15 @@ weight_before i m d h = grind (arith, nat_tests)
 
 module _ (g : Game) (i : ℕ) (small : i < blank) (W : List ℕ) (after : AfterRound g i W) (μ : ℕ → ℕ) (levels : ByLevels g.rules (places g) μ) where
   -- a place is blank after i rounds exactly if its mark is above i
-  marked-low : (p : ℕ) → p < g.size → MarkedAt g i W p → μ p ≤ i
-  marked-low p lt y =
+  marked_low : (p : ℕ) → p < g.size → MarkedAt g i W p → μ p ≤ i
+  marked_low p lt y =
       elim (dec_lt (μ p) never) [
         | yes n ↦ let e = first_once g.rules p (μ p) (marks_of W p) (levels.count p (lt→ltb p g.size lt) n) y.first in omega (arith, y.within)
         | no z ↦ absurd (levels.none_holds p (lt→ltb p g.size lt) (omega arith) (marks_of W p) y.first.0)
       ]
 
-  open-high : (p : ℕ) → p < g.size → OpenAt g i W p → suc i ≤ μ p
-  open-high p lt n =
+  open_high : (p : ℕ) → p < g.size → OpenAt g i W p → suc i ≤ μ p
+  open_high p lt n =
       elim (dec_le (suc i) (μ p)) [
         | yes y ↦ y
         | no z ↦ absurd (n.outside (level_mono g.rules i (μ p) p (levels.count p (lt→ltb p g.size lt) (omega arith)).0 (omega arith)))
@@ -41,10 +41,10 @@ module _ (g : Game) (i : ℕ) (small : i < blank) (W : List ℕ) (after : AfterR
       elim (after n (omega arith)) [
         | inl y ↦
             let a = weight_other (marks_of W n) (degree g.rules n) (λ e. omega (arith, y.within)) in
-            let b = weight_before (suc i) (μ n) (degree g.rules n) (omega (arith, marked-low n (omega arith) y)) in
+            let b = weight_before (suc i) (μ n) (degree g.rules n) (omega (arith, marked_low n (omega arith) y)) in
             rw (a, b, rest)
         | inr o ↦
             let a = weight_blank (marks_of W n) (degree g.rules n) o.unmarked in
-            let b = weight_from (suc i) (μ n) (degree g.rules n) (open-high n (omega arith) o) in
+            let b = weight_from (suc i) (μ n) (degree g.rules n) (open_high n (omega arith) o) in
             rw (a, b, rest)
       ]

@@ -21,17 +21,17 @@ holds_start : (g : Game) (W : List ℕ) → Fits g (length W) → Begun g W → 
 holds_start g W fits b = record { fits = fits; way = inl (refl, going_start g W b) }
 
 module _ (g : Game) (s t : State) (m : ℕ) (fits : Fits g (length s.words)) (going : Going g s.rounds s.looks s.words) (made : MakesRound g s t m) where
-  rounds-are : t.rounds ≡ suc s.rounds
-  rounds-are = omega (arith, made.number, going.bound, fits.sized.1)
+  rounds_are : t.rounds ≡ suc s.rounds
+  rounds_are = omega (arith, made.number, going.bound, fits.sized.1)
 
-  looks-are-exact : t.looks ≡ s.looks + looks_of g.rules g.size s.words
-  looks-are-exact =
+  looks_are_exact : t.looks ≡ s.looks + looks_of g.rules g.size s.words
+  looks_are_exact =
       omega (arith, made.looked, going.few, going.bound, fits.sized.1, looks_most g fits.sound g.size (omega arith) s.words)
 
   made_holds : Holds g t
   made_holds =
       let fit : Fits g (length t.words) = subst (λ (n : ℕ). Fits g n) (sym made.long) fits in
-      let round : Rounded g (suc s.rounds) s.words t.words = subst (λ (i : ℕ). Rounded g i s.words t.words) rounds-are made.rounded in
+      let round : Rounded g (suc s.rounds) s.words t.words = subst (λ (i : ℕ). Rounded g i s.words t.words) rounds_are made.rounded in
       elim (dec_lt 0 m) [
         | yes y ↦
             let go = going_more g fits.sound fits.sized.1 _ _ _ going t.words round (omega (arith, made.marked)) in
@@ -39,7 +39,7 @@ module _ (g : Game) (s t : State) (m : ℕ) (fits : Fits g (length s.words)) (go
               fits = fit;
               way = inl (
                 made.ends ∙ ne_eqb m 0 (λ e. omega arith),
-                subst (λ (r : ℕ). Going g r t.looks t.words) (sym rounds-are) (subst (λ (l : ℕ). Going g (suc s.rounds) l t.words) (sym looks-are-exact) go),
+                subst (λ (r : ℕ). Going g r t.looks t.words) (sym rounds_are) (subst (λ (l : ℕ). Going g (suc s.rounds) l t.words) (sym looks_are_exact) go),
               );
             }
         | no z ↦
@@ -48,7 +48,7 @@ module _ (g : Game) (s t : State) (m : ℕ) (fits : Fits g (length s.words)) (go
               fits = fit;
               way = inr (
                 made.ends ∙ eq-eqb m 0 (omega arith),
-                subst (λ (r : ℕ). Over g r t.looks t.words) (sym rounds-are) (subst (λ (l : ℕ). Over g (suc s.rounds) l t.words) (sym looks-are-exact) go),
+                subst (λ (r : ℕ). Over g r t.looks t.words) (sym rounds_are) (subst (λ (l : ℕ). Over g (suc s.rounds) l t.words) (sym looks_are_exact) go),
               );
             }
       ]

@@ -1,7 +1,7 @@
 -- When a run may be finished, and why not.
 use Rattle.std.specs.Prelude.{◌≡◌, ℕ, true, false, List, [], length}
 use Rattle.arena.specs.Game.{Game}
-use Rattle.arena.specs.Unfit.{Fits, Cause, told as told-unfit}
+use Rattle.arena.specs.Unfit.{Fits, Cause, told as told_unfit}
 use Rattle.solver.specs.State.{State}
 use Rattle.solver.specs.declared.finish_refusal.FinishRefusal.{FinishRefusal}
 use Rattle.solver.specs.declared.finish_refusal.FinishRefusal.TheVariants.{Misfit, Unsettled}
@@ -12,7 +12,7 @@ MayFinish g s = Fits g (length s.words) × (s.settled ≡ true)
 
 -- the number of each refusal, and its values
 abbrev pub told : FinishRefusal → ℕ × List ℕ
-told (Misfit u) = told-unfit u
+told (Misfit u) = told_unfit u
 told Unsettled = (18, [])
 
 -- why a finish is refused; each cause only where those before it are absent

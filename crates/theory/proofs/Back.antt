@@ -20,8 +20,8 @@ module _ (R : Rules) (D : ℕ → Bool) (μ w : ℕ → ℕ) (closed : Closed R 
   stays o d (p ∷ []) pl fr = subst (λ (x : ℕ). T (D x)) (sym fr) d
   stays o d (q ∷ (p ∷ h)) pl fr = inside p (stays o d (p ∷ h) pl.2 fr) pl.0 q pl.1
 
-  lawful-plan : (o : ℕ) → T (D o) → Lawful R o (plan w)
-  lawful-plan o d h pl fr c e z = (cl (newest h) (stays o d h pl fr)).named c
+  lawful_plan : (o : ℕ) → T (D o) → Lawful R o (plan w)
+  lawful_plan o d h pl fr c e z = (cl (newest h) (stays o d h pl fr)).named c
 
   over : (p : ℕ) → T (D p) → caught R p ≡ true → μ p ≡ 0
   over p d c =
@@ -38,9 +38,9 @@ module _ (R : Rules) (D : ℕ → Bool) (μ w : ℕ → ℕ) (closed : Closed R 
       ]
 
   -- what the plan forces from p in suc j moves, it forces from the next place in j
-  forces-after : (p : ℕ) → T (D p) → caught R p ≡ false → μ p < never → (q : ℕ) → Step R p q → (R.owner p ≡ Pursuer → q ≡ move R p (w p)) → (j : ℕ) → μ p ≡ suc j → Forces R (plan w) q j
-  forces-after p d c n q st first j e [] pl fr fo co stops = absurd pl
-  forces-after p d c n q st first j e (x ∷ h) pl fr fo co stops =
+  forces_after : (p : ℕ) → T (D p) → caught R p ≡ false → μ p < never → (q : ℕ) → Step R p q → (R.owner p ≡ Pursuer → q ≡ move R p (w p)) → (j : ℕ) → μ p ≡ suc j → Forces R (plan w) q j
+  forces_after p d c n q st first j e [] pl fr fo co stops = absurd pl
+  forces_after p d c n q st first j e (x ∷ h) pl fr fo co stops =
       (cl p d).forced n ((x ∷ h) ++ (p ∷ [])) (play_first R p q (x ∷ h) pl fr c st) (from_first p (x ∷ h)) (follows_first R Pursuer w p q (x ∷ h) fr first fo) co
       (elim stops [ inl m ↦ inl (omega (arith, made_first p x h)) | inr z ↦ inr z ])
 
@@ -48,24 +48,24 @@ module _ (R : Rules) (D : ℕ → Bool) (μ w : ℕ → ℕ) (closed : Closed R 
   lowers p d c n q st first =
       let a : 0 < μ p = positive p d c in
       let dq = inside p d c q st in
-      let wins = forces-after p d c n q st first (pred (μ p)) (omega arith) in
+      let wins = forces_after p d c n q st first (pred (μ p)) (omega arith) in
       elim (dec_lt (μ q) never) [
-        | yes y ↦ let b : μ q ≤ pred (μ p) = (cl q dq).least y (plan w) (lawful-plan q dq) (pred (μ p)) wins in omega arith
-        | no z ↦ absurd ((cl q dq).unforced (omega arith) (plan w) (lawful-plan q dq) (pred (μ p)) wins)
+        | yes y ↦ let b : μ q ≤ pred (μ p) = (cl q dq).least y (plan w) (lawful_plan q dq) (pred (μ p)) wins in omega arith
+        | no z ↦ absurd ((cl q dq).unforced (omega arith) (plan w) (lawful_plan q dq) (pred (μ p)) wins)
       ]
 
   -- a pursuer's place: any move first, and then the plan
-  first-lawful : (p : ℕ) → T (D p) → (i : ℕ) → i < degree R p → Lawful R p (first_then i w)
-  first-lawful p d i l [] pl fr c e z = absurd pl
-  first-lawful p d i l (x ∷ []) pl fr c e z = subst (λ (y : ℕ). i < degree R y) (sym fr) l
-  first-lawful p d i l (y ∷ (x ∷ h)) pl fr c e z = (cl y (stays p d (y ∷ (x ∷ h)) pl fr)).named c
+  first_lawful : (p : ℕ) → T (D p) → (i : ℕ) → i < degree R p → Lawful R p (first_then i w)
+  first_lawful p d i l [] pl fr c e z = absurd pl
+  first_lawful p d i l (x ∷ []) pl fr c e z = subst (λ (y : ℕ). i < degree R y) (sym fr) l
+  first_lawful p d i l (y ∷ (x ∷ h)) pl fr c e z = (cl y (stays p d (y ∷ (x ∷ h)) pl fr)).named c
 
-  first-forces : (p : ℕ) → T (D p) → caught R p ≡ false → R.owner p ≡ Pursuer → (i : ℕ) → i < degree R p → μ (move R p i) < never → Forces R (first_then i w) p (suc (μ (move R p i)))
-  first-forces p d c e i l n [] pl fr fo co stops = absurd pl
-  first-forces p d c e i l n (x ∷ []) pl fr fo co stops =
+  first_forces : (p : ℕ) → T (D p) → caught R p ≡ false → R.owner p ≡ Pursuer → (i : ℕ) → i < degree R p → μ (move R p i) < never → Forces R (first_then i w) p (suc (μ (move R p i)))
+  first_forces p d c e i l n [] pl fr fo co stops = absurd pl
+  first_forces p d c e i l n (x ∷ []) pl fr fo co stops =
       let a : 0 < degree R x = subst (λ (y : ℕ). 0 < degree R y) (sym fr) (omega arith) in
       omega arith
-  first-forces p d c e i l n (y ∷ (x ∷ h)) pl fr fo co stops =
+  first_forces p d c e i l n (y ∷ (x ∷ h)) pl fr fo co stops =
       let q = move R p i in
       (cl q (closed p d c i l)).forced n (y ∷ strip x h) (strip_play R y x h pl) (strip_from R i w p e y x h fr fo) (strip_follows R i w y x h fo) co
       (elim stops [ inl m ↦ inl (omega (arith, strip_length x h)) | inr z ↦ inr z ])
@@ -75,9 +75,9 @@ module _ (R : Rules) (D : ℕ → Bool) (μ w : ℕ → ℕ) (closed : Closed R 
       let q = move R p i in
       elim (dec_lt (μ q) never) [
         | yes y ↦
-            let wins = first-forces p d c e i l y in (
-              (λ n. absurd ((cl p d).unforced n (first_then i w) (first-lawful p d i l) (suc (μ q)) wins)),
-              (λ n. (cl p d).least n (first_then i w) (first-lawful p d i l) (suc (μ q)) wins),
+            let wins = first_forces p d c e i l y in (
+              (λ n. absurd ((cl p d).unforced n (first_then i w) (first_lawful p d i l) (suc (μ q)) wins)),
+              (λ n. (cl p d).least n (first_then i w) (first_lawful p d i l) (suc (μ q)) wins),
             )
         | no z ↦ ((λ n. omega arith), (λ n. omega arith))
       ]
@@ -86,8 +86,8 @@ module _ (R : Rules) (D : ℕ → Bool) (μ w : ℕ → ℕ) (closed : Closed R 
   abbrev Both : ℕ → List ℕ → Type 0
   Both o h = Play R h × From o h × Follows R Pursuer (plan w) h × Follows R Runner (plan w) h
 
-  both-more : (o : ℕ) → T (D o) → (h : List ℕ) → Both o h → caught R (newest h) ≡ false → Both o (move R (newest h) (w (newest h)) ∷ h)
-  both-more o d h (pl, fr, fs, fw) c =
+  both_more : (o : ℕ) → T (D o) → (h : List ℕ) → Both o h → caught R (newest h) ≡ false → Both o (move R (newest h) (w (newest h)) ∷ h)
+  both_more o d h (pl, fr, fs, fw) c =
       let x = newest h in
       let q = move R x (w x) in (
         play_more R h q pl c (w x, (cl x (stays o d h pl fr)).named c, refl),
@@ -114,7 +114,7 @@ module _ (R : Rules) (D : ℕ → Bool) (μ w : ℕ → ℕ) (closed : Closed R 
         | inr k ↦
             let h = k.0 in
             let q = move R (newest h) (w (newest h)) in
-            let b = both-more o d h k.1 k.2 in
+            let b = both_more o d h k.1 k.2 in
             let m : made (q ∷ h) ≡ suc n = made_more R h q k.1.0 ∙ ap suc k.3 in
             elim (tests (caught R q)) [
               | inl c ↦ inl (q ∷ h, b, c, omega arith)

@@ -53,13 +53,13 @@ module _ (R : Rules) (N : ℕ) (μ w : ℕ → ℕ) (closed : Closed R (λ p. lt
       ]
 
   -- every number up to a count is a mark
-  each-lower : (k p : ℕ) → p < N → μ p ≡ k → k < never → (j : ℕ) → j < suc k → (q : ℕ) × (q < N) × (μ q ≡ j)
-  each-lower zero p lt e n j h = (p, lt, omega arith)
-  each-lower (suc k) p lt e n j h =
+  each_lower : (k p : ℕ) → p < N → μ p ≡ k → k < never → (j : ℕ) → j < suc k → (q : ℕ) × (q < N) × (μ q ≡ j)
+  each_lower zero p lt e n j h = (p, lt, omega arith)
+  each_lower (suc k) p lt e n j h =
       elim (dec_lt j (suc k)) [
-        | yes y ↦ let (q, inside, f) = lower p lt (omega arith) (omega arith) in each-lower k q inside (omega arith) (omega arith) j y
+        | yes y ↦ let (q, inside, f) = lower p lt (omega arith) (omega arith) in each_lower k q inside (omega arith) (omega arith) j y
         | no z ↦ (p, lt, omega arith)
       ]
 
   pub counts_below : (p : ℕ) → p < N → μ p < never → μ p < N
-  counts_below p lt n = omega (arith, pigeonhole N μ (suc (μ p)) (each-lower (μ p) p lt refl n))
+  counts_below p lt n = omega (arith, pigeonhole N μ (suc (μ p)) (each_lower (μ p) p lt refl n))

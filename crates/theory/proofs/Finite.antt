@@ -44,54 +44,54 @@ known (yes a) f = a
 known (no z) f = absurd (f z)
 
 module _ {P : ℕ → Type 0} (dec : (i : ℕ) → Dec (P i)) where
-  weight-yes : (i : ℕ) → P i → weight P dec i ≡ 1
+  weight_yes : (i : ℕ) → P i → weight P dec i ≡ 1
   unfolding weight
-  weight-yes i x = go (dec i)
+  weight_yes i x = go (dec i)
     where
       go : (d : Dec (P i)) → ◌≡◌ {A = ℕ} (elim d as (λ _. ℕ) [ yes y ↦ 1 | no z ↦ 0 ]) 1
       go (yes y) = refl
       go (no z) = absurd (z x)
 
-  weight-no : (i : ℕ) → (P i → ⊥) → weight P dec i ≡ 0
+  weight_no : (i : ℕ) → (P i → ⊥) → weight P dec i ≡ 0
   unfolding weight
-  weight-no i f = go (dec i)
+  weight_no i f = go (dec i)
     where
       go : (d : Dec (P i)) → ◌≡◌ {A = ℕ} (elim d as (λ _. ℕ) [ yes y ↦ 1 | no z ↦ 0 ]) 0
       go (yes y) = absurd (f y)
       go (no z) = refl
 
-  weight-most : (i : ℕ) → weight P dec i ≤ 1
-  weight-most i = elim (dec i) [ yes y ↦ omega (arith, weight-yes i y) | no z ↦ omega (arith, weight-no i z) ]
+  weight_most : (i : ℕ) → weight P dec i ≤ 1
+  weight_most i = elim (dec i) [ yes y ↦ omega (arith, weight_yes i y) | no z ↦ omega (arith, weight_no i z) ]
 
 module _ (R : Rules) where
-  dec-level : (i p : ℕ) → Dec (Level R i p)
-  dec-level zero p = elim (tests (caught R p)) [ inl c ↦ yes c | inr c ↦ no (λ t. not_clash (caught R p) t c) ]
-  dec-level (suc i) p =
-      elim (dec-level i p) [
+  dec_level : (i p : ℕ) → Dec (Level R i p)
+  dec_level zero p = elim (tests (caught R p)) [ inl c ↦ yes c | inr c ↦ no (λ t. not_clash (caught R p) t c) ]
+  dec_level (suc i) p =
+      elim (dec_level i p) [
         | yes y ↦ yes (inl y)
         | no z ↦ elim (sides (R.owner p)) [
-          | inl e ↦ elim (some_or_none (λ j. Level R i (move R p j)) (λ j. dec-level i (move R p j)) (degree R p)) [
+          | inl e ↦ elim (some_or_none (λ j. Level R i (move R p j)) (λ j. dec_level i (move R p j)) (degree R p)) [
             | inl y ↦ yes (inr (inl (e, y)))
             | inr none_in ↦ no (λ l. elim l [
               | inl y ↦ z y
               | inr g ↦ elim g [ inl f ↦ none_in f.1.0 f.1.1 f.1.2 | inr f ↦ not_both (R.owner p) e f.0 ]
             ])
           ]
-          | inr e ↦ elim (some_or_none (λ j. Level R i (move R p j) → ⊥) (λ j. dec_not (dec-level i (move R p j))) (degree R p)) [
+          | inr e ↦ elim (some_or_none (λ j. Level R i (move R p j) → ⊥) (λ j. dec_not (dec_level i (move R p j))) (degree R p)) [
             | inl y ↦ no (λ l. elim l [
               | inl x ↦ z x
               | inr g ↦ elim g [ inl f ↦ not_both (R.owner p) f.0 e | inr f ↦ y.2 (f.1 y.0 y.1) ]
             ])
-            | inr all_in ↦ yes (inr (inr (e, λ j lt. known (dec-level i (move R p j)) (all_in j lt))))
+            | inr all_in ↦ yes (inr (inr (e, λ j lt. known (dec_level i (move R p j)) (all_in j lt))))
           ]
         ]
       ]
 
-  first-at : (t p : ℕ) → Level R t p → (k : ℕ) × (k ≤ t) × First R p k
-  first-at zero p l = (0, omega arith, (l, λ i h. absurd (omega arith)))
-  first-at (suc t) p l =
-      elim (dec-level t p) [
-        | yes y ↦ let k = first-at t p y in (k.0, omega (arith, k.1), k.2)
+  first_at : (t p : ℕ) → Level R t p → (k : ℕ) × (k ≤ t) × First R p k
+  first_at zero p l = (0, omega arith, (l, λ i h. absurd (omega arith)))
+  first_at (suc t) p l =
+      elim (dec_level t p) [
+        | yes y ↦ let k = first_at t p y in (k.0, omega (arith, k.1), k.2)
         | no z ↦ (suc t, omega arith, (l, λ i h x. z (level_mono R t i p x (omega arith))))
       ]
 
@@ -100,37 +100,37 @@ module _ (R : Rules) where
     Stable s = (p : ℕ) → p < N → Level R (suc s) p → Level R s p
 
     held : ℕ → ℕ → ℕ
-    held s p = weight (λ q. Level R s q) (λ q. dec-level s q) p
+    held s p = weight (λ q. Level R s q) (λ q. dec_level s q) p
 
-    held-grows : (s p : ℕ) → held s p ≤ held (suc s) p
+    held_grows : (s p : ℕ) → held s p ≤ held (suc s) p
     unfolding held
-    held-grows s p =
-        elim (dec-level s p) [
-          | yes y ↦ omega (arith, weight-yes (λ q. dec-level s q) p y, weight-yes (λ q. dec-level (suc s) q) p (inl y))
-          | no z ↦ omega (arith, weight-no (λ q. dec-level s q) p z)
+    held_grows s p =
+        elim (dec_level s p) [
+          | yes y ↦ omega (arith, weight_yes (λ q. dec_level s q) p y, weight_yes (λ q. dec_level (suc s) q) p (inl y))
+          | no z ↦ omega (arith, weight_no (λ q. dec_level s q) p z)
         ]
 
-    stable-or-more : (s : ℕ) → ((t : ℕ) × (t < s) × Stable t) ⊎ (s ≤ sum (held s) N)
+    stable_or_more : (s : ℕ) → ((t : ℕ) × (t < s) × Stable t) ⊎ (s ≤ sum (held s) N)
     unfolding Stable held
-    stable-or-more zero = inr (omega arith)
-    stable-or-more (suc s) =
-        elim (stable-or-more s) [
+    stable_or_more zero = inr (omega arith)
+    stable_or_more (suc s) =
+        elim (stable_or_more s) [
           | inl y ↦ inl (y.0, omega (arith, y.1), y.2)
-          | inr more ↦ elim (some_or_none (λ p. Level R (suc s) p × (Level R s p → ⊥)) (λ p. dec_more (dec-level (suc s) p) (dec-level s p)) N) [
+          | inr more ↦ elim (some_or_none (λ p. Level R (suc s) p × (Level R s p → ⊥)) (λ p. dec_more (dec_level (suc s) p) (dec_level s p)) N) [
             | inl x ↦
-                let a : held s x.0 ≡ 0 = weight-no (λ q. dec-level s q) x.0 x.2.1 in
-                let b : held (suc s) x.0 ≡ 1 = weight-yes (λ q. dec-level (suc s) q) x.0 x.2.0 in
-                inr (omega (arith, sum_lt (held s) (held (suc s)) (held-grows s) x.0 N x.1 (omega arith)))
-            | inr same ↦ inl (s, omega arith, λ p lt l. known (dec-level s p) (λ z. same p lt (l, z)))
+                let a : held s x.0 ≡ 0 = weight_no (λ q. dec_level s q) x.0 x.2.1 in
+                let b : held (suc s) x.0 ≡ 1 = weight_yes (λ q. dec_level (suc s) q) x.0 x.2.0 in
+                inr (omega (arith, sum_lt (held s) (held (suc s)) (held_grows s) x.0 N x.1 (omega arith)))
+            | inr same ↦ inl (s, omega arith, λ p lt l. known (dec_level s p) (λ z. same p lt (l, z)))
           ]
         ]
 
     stable : (t : ℕ) × (t ≤ N) × Stable t
     unfolding held
     stable =
-        elim (stable-or-more (suc N)) [
+        elim (stable_or_more (suc N)) [
           | inl y ↦ (y.0, omega (arith, y.1), y.2)
-          | inr more ↦ absurd (omega (arith, sum_bound (held (suc N)) (λ i. weight-most (λ q. dec-level (suc N) q) i) N))
+          | inr more ↦ absurd (omega (arith, sum_bound (held (suc N)) (λ i. weight_most (λ q. dec_level (suc N) q) i) N))
         ]
 
     within : (p : ℕ) → p < N → caught R p ≡ false → (j : ℕ) → j < degree R p → move R p j < N
@@ -155,20 +155,20 @@ module _ (R : Rules) where
     Marked : ℕ → ℕ → Type 0
     Marked p m = (m < never → First R p m) × (never ≤ m → (i : ℕ) → Level R i p → ⊥)
 
-    marked-count : (p m : ℕ) → m < never → First R p m → Marked p m
+    marked_count : (p m : ℕ) → m < never → First R p m → Marked p m
     unfolding Marked
-    marked-count p m n f = ((λ _. f), (λ z. absurd (omega arith)))
+    marked_count p m n f = ((λ _. f), (λ z. absurd (omega arith)))
 
-    marked-never : (p m : ℕ) → never ≤ m → ((i : ℕ) → Level R i p → ⊥) → Marked p m
+    marked_never : (p m : ℕ) → never ≤ m → ((i : ℕ) → Level R i p → ⊥) → Marked p m
     unfolding Marked
-    marked-never p m n f = ((λ z. absurd (omega arith)), (λ _. f))
+    marked_never p m n f = ((λ z. absurd (omega arith)), (λ _. f))
 
     choice : (p : ℕ) → (m : ℕ) × (p < N → Marked p m)
     choice p =
         let (t, le, st) = stable in
-        elim (dec-level t p) [
-          | yes y ↦ let k = first-at t p y in (k.0, λ _. marked-count p k.0 (omega (arith, k.1)) k.2)
-          | no z ↦ (never, λ lt. marked-never p never (omega arith) (λ i l. z (settled t st i p lt l)))
+        elim (dec_level t p) [
+          | yes y ↦ let k = first_at t p y in (k.0, λ _. marked_count p k.0 (omega (arith, k.1)) k.2)
+          | no z ↦ (never, λ lt. marked_never p never (omega arith) (λ i l. z (settled t st i p lt l)))
         ]
 
     mark : ℕ → ℕ

@@ -31,13 +31,13 @@ module _ (R : Rules) (D : ℕ → Bool) (μ w : ℕ → ℕ) (closed : Closed R 
   abbrev Held : ℕ → List ℕ → Type 0
   Held o h = T (D (newest h)) × (never ≤ μ o → never ≤ μ (newest h)) × (μ o < never → μ o ≤ μ (newest h) + made h)
 
-  held-along : (o : ℕ) → T (D o) → (h : List ℕ) → Play R h → From o h → Follows R Runner (plan w) h → Held o h
-  held-along o d [] pl fr fo = absurd pl
-  held-along o d (p ∷ []) pl fr fo =
+  held_along : (o : ℕ) → T (D o) → (h : List ℕ) → Play R h → From o h → Follows R Runner (plan w) h → Held o h
+  held_along o d [] pl fr fo = absurd pl
+  held_along o d (p ∷ []) pl fr fo =
       let m : μ p ≡ μ o = ap μ fr in
       (subst (λ (x : ℕ). T (D x)) (sym fr) d, (λ n. omega arith), (λ n. omega arith))
-  held-along o d (q ∷ (p ∷ h)) pl fr fo =
-      let ih = held-along o d (p ∷ h) pl.2 fr fo.1 in
+  held_along o d (q ∷ (p ∷ h)) pl fr fo =
+      let ih = held_along o d (p ∷ h) pl.2 fr fo.1 in
       let k = down p ih.0 pl.0 q pl.1 fo.0 in (
         inside p ih.0 pl.0 q pl.1,
         (λ n. k.0 (ih.1 n)),
@@ -58,18 +58,18 @@ module _ (R : Rules) (D : ℕ → Bool) (μ w : ℕ → ℕ) (closed : Closed R 
             let k : suc (μ (move R p st.0)) ≤ μ p = ((rules p d).runner_count c e n).1 st.0 st.1 in omega arith
       ]
 
-  forced-along : (o : ℕ) → T (D o) → μ o < never → (h : List ℕ) → Play R h → From o h → Follows R Pursuer (plan w) h → T (D (newest h)) × (μ (newest h) + made h ≤ μ o)
-  forced-along o d n [] pl fr fo = absurd pl
-  forced-along o d n (p ∷ []) pl fr fo = let m : μ p ≡ μ o = ap μ fr in (subst (λ (x : ℕ). T (D x)) (sym fr) d, omega arith)
-  forced-along o d n (q ∷ (p ∷ h)) pl fr fo =
-      let ih = forced-along o d n (p ∷ h) pl.2 fr fo.1 in
+  forced_along : (o : ℕ) → T (D o) → μ o < never → (h : List ℕ) → Play R h → From o h → Follows R Pursuer (plan w) h → T (D (newest h)) × (μ (newest h) + made h ≤ μ o)
+  forced_along o d n [] pl fr fo = absurd pl
+  forced_along o d n (p ∷ []) pl fr fo = let m : μ p ≡ μ o = ap μ fr in (subst (λ (x : ℕ). T (D x)) (sym fr) d, omega arith)
+  forced_along o d n (q ∷ (p ∷ h)) pl fr fo =
+      let ih = forced_along o d n (p ∷ h) pl.2 fr fo.1 in
       let a : μ p + length h ≤ μ o = ih.1 in
       let k : suc (μ q) ≤ μ p = up p ih.0 pl.0 (omega arith) q pl.1 fo.0 in
       (inside p ih.0 pl.0 q pl.1, omega arith)
 
   forced : (o : ℕ) → T (D o) → μ o < never → Forces R (plan w) o (μ o)
   forced o d n h pl fr fo c stops =
-      let k = forced-along o d n h pl fr fo in
+      let k = forced_along o d n h pl fr fo in
       let a : 0 < μ (newest h) = (rules (newest h) k.0).positive c in
       let b : w (newest h) < degree R (newest h) = (rules (newest h) k.0).named c in
       omega arith
@@ -78,11 +78,11 @@ module _ (R : Rules) (D : ℕ → Bool) (μ w : ℕ → ℕ) (closed : Closed R 
   abbrev Line : Strategy → ℕ → ℕ → Type 0
   Line s o n = (h : List ℕ) × Play R h × From o h × Follows R Pursuer s h × Follows R Runner (plan w) h × (made h ≡ n)
 
-  open-yet : (o : ℕ) → T (D o) → (h : List ℕ) → Play R h → From o h → Follows R Runner (plan w) h → (μ o < never → made h < μ o) → caught R (newest h) ≡ false
-  open-yet o d h pl fr fw safe =
+  open_yet : (o : ℕ) → T (D o) → (h : List ℕ) → Play R h → From o h → Follows R Runner (plan w) h → (μ o < never → made h < μ o) → caught R (newest h) ≡ false
+  open_yet o d h pl fr fw safe =
       elim (tests (caught R (newest h))) [
         | inl c ↦
-            let k = held-along o d h pl fr fw in
+            let k = held_along o d h pl fr fw in
             let z : μ (newest h) ≡ 0 = (rules (newest h) k.0).over c in
             elim (dec_lt (μ o) never) [
               | yes y ↦ let a : μ o ≤ μ (newest h) + made h = k.2 y in let b : made h < μ o = safe y in absurd (omega arith)
@@ -96,8 +96,8 @@ module _ (R : Rules) (D : ℕ → Bool) (μ w : ℕ → ℕ) (closed : Closed R 
   line s o d lawful (suc n) safe =
       let (h, pl, fr, fs, fw, m) = line s o d lawful n (λ y. let a : suc n ≤ μ o = safe y in omega arith) in
       let x = newest h in
-      let c : caught R x ≡ false = open-yet o d h pl fr fw (λ y. let a : suc n ≤ μ o = safe y in omega arith) in
-      let dx : T (D x) = (held-along o d h pl fr fw).0 in
+      let c : caught R x ≡ false = open_yet o d h pl fr fw (λ y. let a : suc n ≤ μ o = safe y in omega arith) in
+      let dx : T (D x) = (held_along o d h pl fr fw).0 in
       let b : w x < degree R x = (rules x dx).named c in
       elim (sides (R.owner x)) [
         | inl e ↦
@@ -121,25 +121,25 @@ module _ (R : Rules) (D : ℕ → Bool) (μ w : ℕ → ℕ) (closed : Closed R 
             )
       ]
 
-  unforced-by : (s : Strategy) (o : ℕ) → T (D o) → Lawful R o s → (j : ℕ) → (μ o < never → j < μ o) → Forces R s o j → ⊥
-  unforced-by s o d lawful j safe wins =
+  unforced_by : (s : Strategy) (o : ℕ) → T (D o) → Lawful R o s → (j : ℕ) → (μ o < never → j < μ o) → Forces R s o j → ⊥
+  unforced_by s o d lawful j safe wins =
       let (h, pl, fr, fs, fw, m) = line s o d lawful j (λ y. let a : j < μ o = safe y in omega arith) in
-      wins h pl fr fs (open-yet o d h pl fr fw (λ y. let a : j < μ o = safe y in omega arith)) (inl m)
+      wins h pl fr fs (open_yet o d h pl fr fw (λ y. let a : j < μ o = safe y in omega arith)) (inl m)
 
   pub claims : Claims R D μ w
   claims p d = record {
     idle = (rules p d).idle;
     named = (rules p d).named;
     forced = forced p d;
-    least = λ n s lawful j wins. elim (dec_le (μ p) j) [ yes y ↦ y | no z ↦ absurd (unforced-by s p d lawful j (λ _. omega arith) wins) ];
+    least = λ n s lawful j wins. elim (dec_le (μ p) j) [ yes y ↦ y | no z ↦ absurd (unforced_by s p d lawful j (λ _. omega arith) wins) ];
     held = λ n h pl fr fw c.
-        let k = held-along p d h pl fr fw in
+        let k = held_along p d h pl fr fw in
         let z : μ (newest h) ≡ 0 = (rules (newest h) k.0).over c in
         let a : μ p ≤ μ (newest h) + made h = k.2 n in
         omega arith;
-    unforced = λ n s lawful j wins. unforced-by s p d lawful j (λ y. absurd (omega arith)) wins;
+    unforced = λ n s lawful j wins. unforced_by s p d lawful j (λ y. absurd (omega arith)) wins;
     uncaught = λ n h pl fr fw c.
-        let k = held-along p d h pl fr fw in
+        let k = held_along p d h pl fr fw in
         let z : μ (newest h) ≡ 0 = (rules (newest h) k.0).over c in
         let a : never ≤ μ (newest h) = k.1 n in
         omega arith;

@@ -92,14 +92,14 @@ module _ (R : Rules) (D : ℕ → Bool) (μ w : ℕ → ℕ) (closed : Closed R 
   Reads : ℕ → ℕ → Type 0
   Reads m p = (μ p < never → μ p ≤ m → label R m p ≡ some (μ p)) × ((μ p < never → m < μ p) → label R m p ≡ none)
 
-  open-label : (m p : ℕ) → caught R p ≡ false → label R (suc m) p ≡ one_more (wanted (R.owner p) (λ q. label R m q) (R.moves p))
-  open-label m p c = rw c refl
+  open_label : (m p : ℕ) → caught R p ≡ false → label R (suc m) p ≡ one_more (wanted (R.owner p) (λ q. label R m q) (R.moves p))
+  open_label m p c = rw c refl
 
-  pursuer-label : (m p : ℕ) → caught R p ≡ false → R.owner p ≡ Pursuer → label R (suc m) p ≡ one_more (least_of (λ q. label R m q) (R.moves p))
-  pursuer-label m p c e = rw (c, e) refl
+  pursuer_label : (m p : ℕ) → caught R p ≡ false → R.owner p ≡ Pursuer → label R (suc m) p ≡ one_more (least_of (λ q. label R m q) (R.moves p))
+  pursuer_label m p c e = rw (c, e) refl
 
-  runner-label : (m p : ℕ) → caught R p ≡ false → R.owner p ≡ Runner → label R (suc m) p ≡ one_more (greatest_of (λ q. label R m q) (R.moves p))
-  runner-label m p c e = rw (c, e) refl
+  runner_label : (m p : ℕ) → caught R p ≡ false → R.owner p ≡ Runner → label R (suc m) p ≡ one_more (greatest_of (λ q. label R m q) (R.moves p))
+  runner_label m p c e = rw (c, e) refl
 
   at_least : (m k q : ℕ) → Reads m q → k ≤ μ q → AtLeast k (label R m q)
   unfolding Reads
@@ -122,13 +122,13 @@ module _ (R : Rules) (D : ℕ → Bool) (μ w : ℕ → ℕ) (closed : Closed R 
       let z : μ p ≡ 0 = (rules p d).over c in
       ((λ n h. e ∙ ap some (omega arith)), (λ f. let a : m < μ p = f (omega arith) in absurd (omega arith)))
 
-  captured-label : (m p : ℕ) → caught R p ≡ true → label R m p ≡ some 0
-  captured-label zero p c = rw c refl
-  captured-label (suc m) p c = rw c refl
+  captured_label : (m p : ℕ) → caught R p ≡ true → label R m p ≡ some 0
+  captured_label zero p c = rw c refl
+  captured_label (suc m) p c = rw c refl
 
-  pursuer-reads : (m p : ℕ) → T (D p) → caught R p ≡ false → R.owner p ≡ Pursuer → ((i : ℕ) → i < degree R p → Reads m (move R p i)) → Reads (suc m) p
+  pursuer_reads : (m p : ℕ) → T (D p) → caught R p ≡ false → R.owner p ≡ Pursuer → ((i : ℕ) → i < degree R p → Reads m (move R p i)) → Reads (suc m) p
   unfolding Reads
-  pursuer-reads m p d c e ih =
+  pursuer_reads m p d c e ih =
       let f : ℕ → Option ℕ = λ q. label R m q in
       let lt : w p < degree R p = (rules p d).named c in (
         (λ n h.
@@ -138,7 +138,7 @@ module _ (R : Rules) (D : ℕ → Bool) (μ w : ℕ → ℕ) (closed : Closed R 
             let least : least_of f (R.moves p) ≡ some (μ q) =
             least_is f (μ q) (R.moves p) (w p) lt ((ih (w p) lt).0 (omega arith) (omega arith))
             (λ j g. let b : μ p ≤ suc (μ (move R p j)) = k.1 j g in at_least m (μ q) (move R p j) (ih j g) (omega arith)) in
-            pursuer-label m p c e ∙ ap one_more least ∙ ap some (sym a)),
+            pursuer_label m p c e ∙ ap one_more least ∙ ap some (sym a)),
         (λ late.
             let least : least_of f (R.moves p) ≡ none =
             least_none f (R.moves p) (λ j g. (ih j g).1 (λ y.
@@ -146,12 +146,12 @@ module _ (R : Rules) (D : ℕ → Bool) (μ w : ℕ → ℕ) (closed : Closed R 
               | yes n ↦ let b : μ p ≤ suc (μ (move R p j)) = ((rules p d).pursuer_count c e n).1 j g in let l : suc m < μ p = late n in omega arith
               | no z ↦ let b : never ≤ μ (move R p j) = (rules p d).pursuer_never c e (omega arith) j g in absurd (omega arith)
             ])) in
-            pursuer-label m p c e ∙ ap one_more least),
+            pursuer_label m p c e ∙ ap one_more least),
       )
 
-  runner-reads : (m p : ℕ) → T (D p) → caught R p ≡ false → R.owner p ≡ Runner → ((i : ℕ) → i < degree R p → Reads m (move R p i)) → Reads (suc m) p
+  runner_reads : (m p : ℕ) → T (D p) → caught R p ≡ false → R.owner p ≡ Runner → ((i : ℕ) → i < degree R p → Reads m (move R p i)) → Reads (suc m) p
   unfolding Reads
-  runner-reads m p d c e ih =
+  runner_reads m p d c e ih =
       let f : ℕ → Option ℕ = λ q. label R m q in
       let lt : w p < degree R p = (rules p d).named c in
       let q = move R p (w p) in (
@@ -161,7 +161,7 @@ module _ (R : Rules) (D : ℕ → Bool) (μ w : ℕ → ℕ) (closed : Closed R 
             let most : greatest_of f (R.moves p) ≡ some (μ q) =
             greatest_is f (μ q) (R.moves p) (w p) lt ((ih (w p) lt).0 (omega arith) (omega arith))
             (λ j g. let b : suc (μ (move R p j)) ≤ μ p = k.1 j g in at_most m (μ q) (move R p j) (ih j g) (omega arith) (omega arith) (omega arith)) in
-            runner-label m p c e ∙ ap one_more most ∙ ap some (sym a)),
+            runner_label m p c e ∙ ap one_more most ∙ ap some (sym a)),
         (λ late.
             let most : greatest_of f (R.moves p) ≡ none =
             greatest_none f (R.moves p) (w p) lt ((ih (w p) lt).1 (λ y.
@@ -169,7 +169,7 @@ module _ (R : Rules) (D : ℕ → Bool) (μ w : ℕ → ℕ) (closed : Closed R 
               | yes n ↦ let b : μ p ≡ suc (μ q) = ((rules p d).runner_count c e n).0 in let l : suc m < μ p = late n in omega arith
               | no z ↦ let b : never ≤ μ q = (rules p d).runner_never c e (omega arith) in absurd (omega arith)
             ])) in
-            runner-label m p c e ∙ ap one_more most),
+            runner_label m p c e ∙ ap one_more most),
       )
 
   start : (p : ℕ) → T (D p) → caught R p ≡ false → Reads zero p
@@ -179,13 +179,13 @@ module _ (R : Rules) (D : ℕ → Bool) (μ w : ℕ → ℕ) (closed : Closed R 
       ((λ n h. absurd (omega arith)), (λ _. rw c refl))
 
   reads : (m p : ℕ) → T (D p) → Reads m p
-  reads zero p d = elim (tests (caught R p)) [ inl c ↦ captured zero p d c (captured-label zero p c) | inr c ↦ start p d c ]
+  reads zero p d = elim (tests (caught R p)) [ inl c ↦ captured zero p d c (captured_label zero p c) | inr c ↦ start p d c ]
   reads (suc m) p d =
       elim (tests (caught R p)) [
-        | inl c ↦ captured (suc m) p d c (captured-label (suc m) p c)
+        | inl c ↦ captured (suc m) p d c (captured_label (suc m) p c)
         | inr c ↦ elim (sides (R.owner p)) [
-          | inl e ↦ pursuer-reads m p d c e (λ i lt. reads m (move R p i) (closed p d c i lt))
-          | inr e ↦ runner-reads m p d c e (λ i lt. reads m (move R p i) (closed p d c i lt))
+          | inl e ↦ pursuer_reads m p d c e (λ i lt. reads m (move R p i) (closed p d c i lt))
+          | inr e ↦ runner_reads m p d c e (λ i lt. reads m (move R p i) (closed p d c i lt))
         ]
       ]
 

@@ -118,21 +118,21 @@ module _ (R : Rules) (D : ℕ → Bool) (μ : ℕ → ℕ) (closed : Closed R D)
   positive p d c = elim (dec_lt (μ p) never) [ yes y ↦ omega (arith, (grown p d c y).1) | no z ↦ omega arith ]
 
   -- a pursuer's move
-  pursuer-all : (p : ℕ) → T (D p) → caught R p ≡ false → R.owner p ≡ Pursuer → (i : ℕ) → i < degree R p → (μ (move R p i) < never → (μ p ≤ suc (μ (move R p i))) × (μ p < never))
-  pursuer-all p d c e i lt n =
+  pursuer_all : (p : ℕ) → T (D p) → caught R p ≡ false → R.owner p ≡ Pursuer → (i : ℕ) → i < degree R p → (μ (move R p i) < never → (μ p ≤ suc (μ (move R p i))) × (μ p < never))
+  pursuer_all p d c e i lt n =
       first (suc (μ (move R p i))) p d (inr (inl (e, (i, lt, holds (μ (move R p i)) (move R p i) (closed p d c i lt) n (omega arith)))))
 
   -- a runner's place all of whose moves are below k is in the level k
-  runner-all : (k p : ℕ) → T (D p) → caught R p ≡ false → R.owner p ≡ Runner → k ≤ never → ((i : ℕ) → i < degree R p → μ (move R p i) < k) → (μ p ≤ k) × (μ p < never)
-  runner-all zero p d c e n all = let lt : 0 < degree R p = nonstop p d c in absurd (omega (arith, all 0 lt))
-  runner-all (suc j) p d c e n all =
+  runner_all : (k p : ℕ) → T (D p) → caught R p ≡ false → R.owner p ≡ Runner → k ≤ never → ((i : ℕ) → i < degree R p → μ (move R p i) < k) → (μ p ≤ k) × (μ p < never)
+  runner_all zero p d c e n all = let lt : 0 < degree R p = nonstop p d c in absurd (omega (arith, all 0 lt))
+  runner_all (suc j) p d c e n all =
       first (suc j) p d (inr (inr (e, λ i lt. let a : μ (move R p i) < suc j = all i lt in holds j (move R p i) (closed p d c i lt) (omega arith) (omega arith))))
 
   abbrev Good : ℕ → ℕ → Type 0
   Good p i = (i < degree R p) × (μ p < never → μ p ≡ suc (μ (move R p i))) × (R.owner p ≡ Runner → never ≤ μ p → never ≤ μ (move R p i))
 
-  runner-good : (p : ℕ) → T (D p) → caught R p ≡ false → R.owner p ≡ Runner → (i : ℕ) × Good p i
-  runner-good p d c e =
+  runner_good : (p : ℕ) → T (D p) → caught R p ≡ false → R.owner p ≡ Runner → (i : ℕ) × Good p i
+  runner_good p d c e =
       elim (dec_lt (μ p) never) [
         | yes n ↦
             let (j, ej, g) = grown p d c n in
@@ -144,17 +144,17 @@ module _ (R : Rules) (D : ℕ → Bool) (μ : ℕ → ℕ) (closed : Closed R D)
                     let a : j ≤ μ (move R p i) = y.2 in
                     let b : μ (move R p i) ≤ j = (first j (move R p i) (closed p d c i y.1) (f.1 i y.1)).0 in
                     (i, (y.1, (λ _. omega arith), (λ _ z. absurd (omega arith))))
-                | inr below ↦ let a : μ p ≤ j = (runner-all j p d c e (omega arith) below).0 in absurd (omega arith)
+                | inr below ↦ let a : μ p ≤ j = (runner_all j p d c e (omega arith) below).0 in absurd (omega arith)
               ]
             ]
         | no n ↦ elim (find (λ i. μ (move R p i)) never (degree R p)) [
           | inl y ↦ (y.0, (y.1, (λ z. absurd (n z)), (λ _ _. y.2)))
-          | inr below ↦ absurd (n (runner-all never p d c e (omega arith) below).1)
+          | inr below ↦ absurd (n (runner_all never p d c e (omega arith) below).1)
         ]
       ]
 
-  pursuer-good : (p : ℕ) → T (D p) → caught R p ≡ false → R.owner p ≡ Pursuer → (i : ℕ) × Good p i
-  pursuer-good p d c e =
+  pursuer_good : (p : ℕ) → T (D p) → caught R p ≡ false → R.owner p ≡ Pursuer → (i : ℕ) × Good p i
+  pursuer_good p d c e =
       elim (dec_lt (μ p) never) [
         | yes n ↦
             let (j, ej, g) = grown p d c n in
@@ -163,7 +163,7 @@ module _ (R : Rules) (D : ℕ → Bool) (μ : ℕ → ℕ) (closed : Closed R D)
                   let i = f.1.0 in
                   let lt : i < degree R p = f.1.1 in
                   let a = first j (move R p i) (closed p d c i lt) f.1.2 in
-                  let b = pursuer-all p d c e i lt a.1 in
+                  let b = pursuer_all p d c e i lt a.1 in
                   (i, (lt, (λ _. omega (arith, a.0, b.0)), (λ r. absurd (not_both (R.owner p) e r))))
               | inr f ↦ absurd (not_both (R.owner p) e f.0)
             ]
@@ -182,7 +182,7 @@ module _ (R : Rules) (D : ℕ → Bool) (μ : ℕ → ℕ) (closed : Closed R D)
           | inl c ↦ (none, λ d. ((λ _. refl), (λ f. absurd (not_clash (caught R p) c f))))
           | inr c ↦
               let d : T (D p) = subst T (sym y) tt in
-              let k : (i : ℕ) × Good p i = elim (sides (R.owner p)) [ inl e ↦ pursuer-good p d c e | inr e ↦ runner-good p d c e ] in
+              let k : (i : ℕ) × Good p i = elim (sides (R.owner p)) [ inl e ↦ pursuer_good p d c e | inr e ↦ runner_good p d c e ] in
               (k.0, λ _. ((λ f. absurd (not_clash (caught R p) f c)), (λ _. k.1)))
         ]
         | inr z ↦ (0, λ d. absurd (subst T z d))
@@ -195,19 +195,19 @@ module _ (R : Rules) (D : ℕ → Bool) (μ : ℕ → ℕ) (closed : Closed R D)
   unfolding chosen Chosen
   good p d c = ((choice p).1 d).1 c
 
-  none-chosen : (p : ℕ) → T (D p) → caught R p ≡ true → chosen p ≡ none
+  none_chosen : (p : ℕ) → T (D p) → caught R p ≡ true → chosen p ≡ none
   unfolding chosen Chosen
-  none-chosen p d c = ((choice p).1 d).0 c
+  none_chosen p d c = ((choice p).1 d).0 c
 
   pub local : (w : ℕ → ℕ) × TableRules R D μ w
   local = (
     chosen,
     λ p d. record {
       over = over p d;
-      idle = none-chosen p d;
+      idle = none_chosen p d;
       positive = positive p d;
       named = λ c. (good p d c).0;
-      pursuer_count = λ c e n. ((good p d c).1 n, λ i lt. elim (dec_lt (μ (move R p i)) never) [ yes y ↦ (pursuer-all p d c e i lt y).0 | no z ↦ omega arith ]);
+      pursuer_count = λ c e n. ((good p d c).1 n, λ i lt. elim (dec_lt (μ (move R p i)) never) [ yes y ↦ (pursuer_all p d c e i lt y).0 | no z ↦ omega arith ]);
       runner_count = λ c e n. (
         (good p d c).1 n,
         λ i lt.
@@ -217,7 +217,7 @@ module _ (R : Rules) (D : ℕ → Bool) (μ : ℕ → ℕ) (closed : Closed R D)
               | inr f ↦ omega (arith, (first j (move R p i) (closed p d c i lt) (f.1 i lt)).0)
             ],
       );
-      pursuer_never = λ c e n i lt. elim (dec_le never (μ (move R p i))) [ yes y ↦ y | no z ↦ let a : μ p < never = (pursuer-all p d c e i lt (omega arith)).1 in absurd (omega arith) ];
+      pursuer_never = λ c e n i lt. elim (dec_le never (μ (move R p i))) [ yes y ↦ y | no z ↦ let a : μ p < never = (pursuer_all p d c e i lt (omega arith)).1 in absurd (omega arith) ];
       runner_never = λ c e n. (good p d c).2 e n;
     },
   )

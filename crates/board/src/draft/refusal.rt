@@ -1,5 +1,5 @@
-ghost use Rattle.board.specs.GateRefused.{told as gate-told};
-ghost use Rattle.board.specs.SpotsRefused.{told as spots-told};
+ghost use Rattle.board.specs.GateRefused.{told as gate_told};
+ghost use Rattle.board.specs.SpotsRefused.{told as spots_told};
 ghost use Rattle.std.specs.Prelude.{◌≡◌};
 
 // Why a number of spots makes no board.
@@ -12,7 +12,7 @@ pub enum SpotsRefusal {
 impl SpotsRefusal {
     // The refusal's number.
     pub fn number(self) -> u8
-        ensures { result ≡ (spots-told self).0 }
+        ensures { result ≡ (spots_told self).0 }
     {
         match self {
             SpotsRefusal::OutOfRange => 7,
@@ -38,7 +38,7 @@ pub enum GateRefusal {
 impl GateRefusal {
     // The refusal's number; 0 for want of memory, which has none.
     pub fn number(self) -> u8
-        ensures { result ≡ (gate-told self).0 }
+        ensures { result ≡ (gate_told self).0 }
     {
         match self {
             GateRefusal::OffBoard => 7,
