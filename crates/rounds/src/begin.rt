@@ -2,7 +2,6 @@ ghost use Rattle.std.specs.Prelude.{◌≡◌, ℕ, ◌+◌, ◌*◌, ◌<◌, �
 ghost use Rattle.arena.specs.Unfit.{Cause, Fits};
 ghost use Rattle.rounds.specs.Words.{Begun, marks_of};
 
-use crate::fill::fill;
 use arena::unfit::Unfit;
 use arena::{Arena, admitted};
 use marks::mark::{BLANK, NONE};
@@ -19,14 +18,13 @@ fn first_mark<A: Arena>(arena: &A, place: usize) -> u32
 }
 
 // Marks the capture places 0, and blanks the others.
-fn mark_captures<A: Arena>(arena: &A, table: &mut [u32], size: usize)
-    requires size_value { size ≡ (A.Arena.game arena.now).size }
-    requires size_in_bounds { size ≤ length table.old }
-    ensures { (p : ℕ) → p < size → marks_of table.new p ≡ (if (A.Arena.game arena.now).rules.capture p then 0 else 4294967294) }
+fn mark_captures<A: Arena>(arena: &A, marks: &mut [u32])
+    requires { length marks.old ≡ (A.Arena.game arena.now).size }
+    ensures long { length marks.new ≡ length marks.old }
+    ensures marked { (p : ℕ) → p < (A.Arena.game arena.now).size → marks_of marks.new p ≡ (if (A.Arena.game arena.now).rules.capture p then 0 else 4294967294) }
 {
-    for place in 0..size {
-        let mark = first_mark(arena, place);
-        table[place] = mark;
+    for place in 0..marks.len() {
+        marks[place] = first_mark(arena, place);
     }
 }
 
@@ -35,8 +33,8 @@ pub fn begin_table<A: Arena>(arena: &A, table: &mut [u32]) -> Result<(), Unfit>
     ensures { MatchResult result (λ _. Fits (A.Arena.game arena.now) (length table.old) × Begun (A.Arena.game arena.now) table.new) (λ e. Cause (A.Arena.game arena.now) (length table.old) e × (table.new ≡ table.old)) }
 {
     admitted(arena, table.len())?;
-    let size = arena.size();
-    mark_captures(arena, table, size);
-    fill(&mut table[size..], NONE);
+    let (marks, moves) = table.split_at_mut(arena.size());
+    mark_captures(arena, marks);
+    moves.fill(NONE);
     Ok(())
 }

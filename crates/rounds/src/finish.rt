@@ -3,7 +3,7 @@ ghost use Rattle.arena.specs.Sound.{PlacesSound};
 ghost use Rattle.arena.specs.Unfit.{Cause, Fits};
 ghost use Rattle.rounds.specs.Words.{Finished};
 
-use crate::scan::scan_place;
+use crate::scan::View;
 use arena::unfit::Unfit;
 use arena::{Arena, admitted};
 use marks::mark::{BLANK, NEVER};
@@ -17,7 +17,13 @@ fn close_blanks<A: Arena>(arena: &A, table: &mut [u32])
     let size = arena.size();
     for place in 0..size {
         if table[place] == BLANK {
-            let seen = scan_place(arena, table, place, BLANK);
+            let seen = View {
+                arena,
+                table,
+                place,
+                cap: BLANK,
+            }
+            .scan();
             table[place] = NEVER;
             table[size + place] = seen.word;
         }

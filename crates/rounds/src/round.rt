@@ -5,7 +5,7 @@ ghost use Rattle.rounds.specs.Rounds.{MarksRound};
 ghost use Rattle.rounds.specs.Words.{last_round};
 
 use crate::made::Made;
-use crate::scan::scan_place;
+use crate::scan::View;
 use arena::unfit::Unfit;
 use arena::{Arena, admitted};
 use marks::mark::BLANK;
@@ -25,7 +25,13 @@ fn mark_ready<A: Arena>(arena: &A, table: &mut [u32], round: u32) -> Made
     let mut looks = 0;
     for place in 0..size {
         if table[place] == BLANK {
-            let seen = scan_place(arena, table, place, round);
+            let seen = View {
+                arena,
+                table,
+                place,
+                cap: round,
+            }
+            .scan();
             looks += seen.looks;
             if seen.ready {
                 table[place] = round;

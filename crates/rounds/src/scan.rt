@@ -20,61 +20,8 @@ struct Looked<P> {
     looks: u64,
 }
 
-// Looks at each move of the place, and joins what it sees: the mark there, where one of the cap or more counts as the cap.
-fn look_round<A: Arena, P: Joining>(arena: &A, table: &[u32], place: usize, cap: u32) -> Looked<P>
-    requires place { place < (A.Arena.game arena.now).size }
-    requires sound { SoundAt (A.Arena.game arena.now) place }
-    requires fits { (A.Arena.game arena.now).size ≤ length table.now }
-    ensures pick { result.pick ≡ folded P.Joining.neutral P.Joining.joined P.Joining.single 0 (seen_row (A.Arena.game arena.now).rules cap table.now place) }
-    ensures looks { result.looks ≡ degree (A.Arena.game arena.now).rules place }
-{
-    let mut pick = P::start();
-    let mut looks: u64 = 0;
-    let count = arena.move_count(place).unwrap_or(0);
-    for position in 0..count {
-        let Some(to) = arena.move_at(place, position) else {
-            return Looked { pick, looks };
-        };
-        let mark = table[to].min(cap);
-        pick = pick.join(P::count_as(mark, position as u64));
-        looks += 1;
-    }
-    Looked { pick, looks }
-}
-
-// The pick of the player among the moves of the place.
-fn pick_move<A: Arena>(
-    arena: &A,
-    table: &[u32],
-    place: usize,
-    cap: u32,
-    player: Player,
-) -> Looked<Pick>
-    requires place { place < (A.Arena.game arena.now).size }
-    requires sound { SoundAt (A.Arena.game arena.now) place }
-    requires fits { (A.Arena.game arena.now).size ≤ length table.now }
-    ensures pick { Picked (order_of player) 0 (seen_row (A.Arena.game arena.now).rules cap table.now place) result.pick }
-    ensures looks { result.looks ≡ degree (A.Arena.game arena.now).rules place }
-{
-    match player {
-        Player::Pursuer => {
-            let seen: Looked<PursuerPick> = look_round(arena, table, place, cap);
-            Looked {
-                pick: seen.pick.pick,
-                looks: seen.looks,
-            }
-        }
-        Player::Runner => {
-            let seen: Looked<RunnerPick> = look_round(arena, table, place, cap);
-            Looked {
-                pick: seen.pick.pick,
-                looks: seen.looks,
-            }
-        }
-    }
-}
-
 // What one place has for the player who moves there: the move word, whether it is ready, and the looks made.
+// The word is there whether it is ready or not: a finish writes that of a place that is not.
 #[derive(Clone, Copy)]
 pub(crate) struct Scan {
     pub(crate) word: u32,
@@ -82,27 +29,81 @@ pub(crate) struct Scan {
     pub(crate) looks: u64,
 }
 
-// Looks at a place in a round, or in a finish: a mark counts only below the cap.
-pub(crate) fn scan_place<A: Arena>(arena: &A, table: &[u32], place: usize, cap: u32) -> Scan
-    requires place { place < (A.Arena.game arena.now).size }
-    requires sound { SoundAt (A.Arena.game arena.now) place }
-    requires fits { (A.Arena.game arena.now).size ≤ length table.now }
-    ensures word { Best (A.Arena.game arena.now).rules (λ q. min (marks_of table.now q) cap) place result.word }
-    ensures ready { Decides result.ready (Ready (A.Arena.game arena.now).rules cap table.now place) }
-    ensures looks { result.looks ≡ degree (A.Arena.game arena.now).rules place }
-{
-    let player = arena.owner(place).unwrap_or(Player::Runner);
-    let seen = pick_move(arena, table, place, cap, player);
-    match seen.pick {
-        Pick::Nothing => Scan {
-            word: NONE,
-            ready: matches!(player, Player::Runner),
-            looks: seen.looks,
-        },
-        Pick::At { mark, position } => Scan {
-            word: position as u32,
-            ready: mark < cap,
-            looks: seen.looks,
-        },
+// A sound place of an arena, with a table that has a mark for each place of it. A mark counts only below the cap: one
+// of the cap or more counts as the cap.
+#[derive(Drop)]
+pub(crate) struct View<'a, 't, A: Arena> {
+    pub(crate) arena: &'a A,
+    pub(crate) table: &'t [u32],
+    pub(crate) place: usize,
+    pub(crate) cap: u32,
+    ghost here: { place < (A.Arena.game arena.now).size },
+    ghost sound: { SoundAt (A.Arena.game arena.now) place },
+    ghost fits: { (A.Arena.game arena.now).size ≤ length table.now },
+}
+
+impl<'a, 't, A: Arena> View<'a, 't, A> {
+    // Looks at each move of the place, and joins what it sees.
+    fn look_round<P: Joining>(&self) -> Looked<P>
+        ensures pick { result.pick ≡ folded P.Joining.neutral P.Joining.joined P.Joining.single 0 (seen_row (A.Arena.game self.now.arena.now).rules self.now.cap self.now.table.now self.now.place) }
+        ensures looks { result.looks ≡ degree (A.Arena.game self.now.arena.now).rules self.now.place }
+    {
+        let mut pick = P::start();
+        let mut looks: u64 = 0;
+        let count = self.arena.move_count(self.place).unwrap_or(0);
+        for position in 0..count {
+            let Some(to) = self.arena.move_at(self.place, position) else {
+                unreachable()
+            };
+            let mark = self.table[to].min(self.cap);
+            pick = pick.join(P::count_as(mark, position as u64));
+            looks += 1;
+        }
+        Looked { pick, looks }
+    }
+
+    // The pick of the player among the moves of the place.
+    fn pick_move(&self, player: Player) -> Looked<Pick>
+        ensures pick { Picked (order_of player) 0 (seen_row (A.Arena.game self.now.arena.now).rules self.now.cap self.now.table.now self.now.place) result.pick }
+        ensures looks { result.looks ≡ degree (A.Arena.game self.now.arena.now).rules self.now.place }
+    {
+        match player {
+            Player::Pursuer => {
+                let seen: Looked<PursuerPick> = self.look_round();
+                Looked {
+                    pick: seen.pick.pick,
+                    looks: seen.looks,
+                }
+            }
+            Player::Runner => {
+                let seen: Looked<RunnerPick> = self.look_round();
+                Looked {
+                    pick: seen.pick.pick,
+                    looks: seen.looks,
+                }
+            }
+        }
+    }
+
+    // What the place has in a round of the cap's number, or in a finish.
+    pub(crate) fn scan(&self) -> Scan
+        ensures word { Best (A.Arena.game self.now.arena.now).rules (λ q. min (marks_of self.now.table.now q) self.now.cap) self.now.place result.word }
+        ensures ready { Decides result.ready (Ready (A.Arena.game self.now.arena.now).rules self.now.cap self.now.table.now self.now.place) }
+        ensures looks { result.looks ≡ degree (A.Arena.game self.now.arena.now).rules self.now.place }
+    {
+        let player = self.arena.owner(self.place).unwrap_or(Player::Runner);
+        let seen = self.pick_move(player);
+        match seen.pick {
+            Pick::Nothing => Scan {
+                word: NONE,
+                ready: matches!(player, Player::Runner),
+                looks: seen.looks,
+            },
+            Pick::At { mark, position } => Scan {
+                word: position as u32,
+                ready: mark < self.cap,
+                looks: seen.looks,
+            },
+        }
     }
 }

@@ -18,12 +18,12 @@ loop-place-preserved g c =
     let lt : p < G.size = omega arith in
     elim c.if-table-place.branch [
       | then-table-place w ↦
-          sweep_at (w.table-is ∙ ap (λ (n : ℕ). set (set c.loop-place.table p never) (n + p) w.scan_place-seen.result.word) c.size-size.ensures)
-          (sweep_set G (FinishWords G c.args.table.now) p lt _ _ c.loop-place.invariant c.requires.fits never w.scan_place-seen.result.word
+          sweep_at (w.table-is ∙ ap (λ (n : ℕ). set (set c.loop-place.table p never) (n + p) w.scan-seen.result.word) c.size-size.ensures)
+          (sweep_set G (FinishWords G c.args.table.now) p lt _ _ c.loop-place.invariant c.requires.fits never w.scan-seen.result.word
           (inl (
             sym (c.loop-place.invariant.ahead_marks p (omega arith) lt) ∙ w.if-table-place.true,
             refl,
-            best_closed G.rules _ p _ (best_same G c.requires.sound blank _ _ (finish_alike G c.requires.sound p lt _ _ c.loop-place.invariant) p _ lt w.scan_place-seen.ensures.word),
+            best_closed G.rules _ p _ (best_same G c.requires.sound blank _ _ (finish_alike G c.requires.sound p lt _ _ c.loop-place.invariant) p _ lt w.scan-seen.ensures.word),
           )))
       | else-table-place w ↦
           sweep_at w.table-is

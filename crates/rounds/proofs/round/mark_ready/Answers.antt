@@ -17,11 +17,11 @@ loop-place-preserved g c =
     let small : c.args.round < blank = omega arith in
     elim c.if-table-place.branch [
       | then-table-place+then-seen w ↦
-          turn_at (w.table-is ∙ ap (λ (n : ℕ). set (set c.loop-place.table p c.args.round) (n + p) w.scan_place-seen.result.word) c.size-size.ensures) w.marked-is w.looks-is
-          (turn_mark G c.requires.sound _ p small lt _ _ _ _ c.loop-place.invariant c.requires.fits _ w.scan_place-seen.ensures.looks _ w.if-table-place.true (w.scan_place-seen.ensures.ready.0 w.if-seen.true) w.scan_place-seen.ensures.word)
+          turn_at (w.table-is ∙ ap (λ (n : ℕ). set (set c.loop-place.table p c.args.round) (n + p) w.scan-seen.result.word) c.size-size.ensures) w.marked-is w.looks-is
+          (turn_mark G c.requires.sound _ p small lt _ _ _ _ c.loop-place.invariant c.requires.fits _ w.scan-seen.ensures.looks _ w.if-table-place.true (w.scan-seen.ensures.ready.0 w.if-seen.true) w.scan-seen.ensures.word)
       | then-table-place+else-seen w ↦
           turn_at w.table-is w.marked-is w.looks-is
-          (turn_keep G c.requires.sound _ p small lt _ _ _ _ c.loop-place.invariant _ w.scan_place-seen.ensures.looks w.if-table-place.true (λ r. not_clash _ (w.scan_place-seen.ensures.ready.1 r) w.if-seen.false))
+          (turn_keep G c.requires.sound _ p small lt _ _ _ _ c.loop-place.invariant _ w.scan-seen.ensures.looks w.if-table-place.true (λ r. not_clash _ (w.scan-seen.ensures.ready.1 r) w.if-seen.false))
       | else-table-place w ↦
           turn_at w.table-is w.marked-is w.looks-is
           (turn_skip G c.requires.sound _ p small lt _ _ _ _ c.loop-place.invariant w.if-table-place.false)

@@ -4,11 +4,11 @@ use Rattle.marks.specs.Picks.{Picked}
 use Rattle.marks.proofs.Picks.{pursuer_picks, runner_picks}
 use Rattle.rounds.specs.Scans.{seen_row}
 use Rattle.rounds.specs.Words.{order_of}
-use Rattle.rounds.proofs.scan.pick_move.Goals as goal
+use Rattle.rounds.proofs.scan.View.pick_move.Goals as goal
 
 pub returns-in-Pursuer : goal.returns-in-Pursuer
 returns-in-Pursuer g c =
-    let row : List ℕ = seen_row (g.A.Arena.game c.args.arena.now).rules c.args.cap c.args.table.now c.args.place in
+    let row : List ℕ = seen_row (g.A.Arena.game c.args.self.now.arena.now).rules c.args.self.now.cap c.args.self.now.table.now c.args.self.now.place in
     let seen = c.look_round-seen in
     record {
       pick = subst (λ (s : Player). Picked (order_of s) 0 row seen.result.pick.pick) (sym c.in-Pursuer.is) (pursuer_picks 0 row seen.result.pick seen.ensures.pick).has;
@@ -17,7 +17,7 @@ returns-in-Pursuer g c =
 
 pub returns-in-Runner : goal.returns-in-Runner
 returns-in-Runner g c =
-    let row : List ℕ = seen_row (g.A.Arena.game c.args.arena.now).rules c.args.cap c.args.table.now c.args.place in
+    let row : List ℕ = seen_row (g.A.Arena.game c.args.self.now.arena.now).rules c.args.self.now.cap c.args.self.now.table.now c.args.self.now.place in
     let seen = c.look_round-seen-in-Runner in
     record {
       pick = subst (λ (s : Player). Picked (order_of s) 0 row seen.result.pick.pick) (sym c.in-Runner.is) (runner_picks 0 row seen.result.pick seen.ensures.pick).has;
