@@ -2,5 +2,4 @@ pub mod Positions
 pub mod Scanned
 pub mod Sweep
 pub mod Turn
-pub mod Halves
 pub mod Counts

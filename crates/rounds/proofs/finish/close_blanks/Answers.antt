@@ -3,13 +3,10 @@ use Rattle.arena.specs.Game.{Game}
 use Rattle.marks.specs.Marks.{blank, never}
 use Rattle.rounds.specs.Words.{FinishWords}
 use Rattle.rounds.proofs.Positions.{best_same, best_closed}
-use Rattle.rounds.proofs.Sweep.{sweep_start, sweep_keep, sweep_set, sweep_at}
+use Rattle.rounds.proofs.Sweep.{sweep_keep, sweep_set, sweep_at}
 use Rattle.rounds.proofs.Turn.{finish_alike}
 use Rattle.rounds.proofs.finish.close_blanks.Goals as goal
 use Rattle.rounds.proofs.finish.close_blanks.Goals.{then-table-place, else-table-place}
-
-pub loop-place-init : goal.loop-place-init
-loop-place-init g c = sweep_start _ _ _
 
 pub loop-place-preserved : goal.loop-place-preserved
 loop-place-preserved g c =
@@ -29,6 +26,3 @@ loop-place-preserved g c =
           sweep_at w.table-is
           (sweep_keep G (FinishWords G c.args.table.now) p lt _ _ c.loop-place.invariant (inr ((λ e. w.if-table-place.false (c.loop-place.invariant.ahead_marks p (omega arith) lt ∙ e)), refl, refl)))
     ]
-
-pub returns : goal.returns
-returns g c = λ k l. c.loop-place.invariant.done k (omega arith)

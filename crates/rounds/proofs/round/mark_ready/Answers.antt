@@ -1,13 +1,10 @@
-use Rattle.std.proofs.Common.{◌≡◌, ℕ, ◌+◌, ◌<◌, set, ap, ◌∙◌, subst, arith}
+use Rattle.std.proofs.Common.{ℕ, ◌+◌, ◌<◌, set, ap, ◌∙◌, arith}
 use Rattle.theory.proofs.Plays.{not_clash}
 use Rattle.arena.specs.Game.{Game}
 use Rattle.marks.specs.Marks.{blank}
-use Rattle.rounds.proofs.Turn.{Turn, turn_start, turn_skip, turn_keep, turn_mark, turn_at}
+use Rattle.rounds.proofs.Turn.{turn_skip, turn_keep, turn_mark, turn_at}
 use Rattle.rounds.proofs.round.mark_ready.Goals as goal
 use Rattle.rounds.proofs.round.mark_ready.Goals.{then-table-place+then-seen, then-table-place+else-seen, else-table-place}
-
-pub loop-place-init : goal.loop-place-init
-loop-place-init g c = turn_start _ _ _
 
 pub loop-place-preserved : goal.loop-place-preserved
 loop-place-preserved g c =
@@ -26,11 +23,3 @@ loop-place-preserved g c =
           turn_at w.table-is w.marked-is w.looks-is
           (turn_skip G c.requires.sound _ p small lt _ _ _ _ c.loop-place.invariant w.if-table-place.false)
     ]
-
-pub returns : goal.returns
-returns g c =
-    let G : Game = g.A.Arena.game c.args.arena.now in
-    let e : c.loop-place.place ≡ G.size = omega arith in
-    let t : Turn G c.args.round G.size c.args.table.now c.loop-place.table c.loop-place.marked c.loop-place.looks =
-    subst (λ (x : ℕ). Turn G c.args.round x c.args.table.now c.loop-place.table c.loop-place.marked c.loop-place.looks) e c.loop-place.invariant in
-    record { rounded = t.pass.done; marked = t.count; looked = t.looks }

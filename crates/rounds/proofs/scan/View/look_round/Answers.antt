@@ -1,7 +1,6 @@
-use Rattle.std.proofs.Common.{◌≡◌, ℕ, ◌+◌, ◌%◌, ◌^◌, min, List, get_or, sym, ap, ◌∙◌, arith, take_all}
-use Rattle.arena.specs.Game.{Game, degree}
-use Rattle.arena.proofs.Asked.{target_some, count_known}
-use Rattle.joining.specs.Rows.{folded}
+use Rattle.std.proofs.Common.{◌≡◌, ℕ, ◌+◌, ◌%◌, ◌^◌, min, List, get_or, sym, ap, ◌∙◌, arith}
+use Rattle.arena.specs.Game.{Game}
+use Rattle.arena.proofs.Asked.{target_some}
 use Rattle.joining.proofs.Folds.{total_next}
 use Rattle.rounds.specs.Scans.{seen_row}
 use Rattle.rounds.specs.Words.{marks_of}
@@ -24,18 +23,3 @@ loop-position-preserved g c =
     c.count_as.ensures ∙ ap (λ (m : ℕ). g.P.Joining.single m i) mark ∙ ap (g.P.Joining.single (get_or row i 0)) here in
     let joined = rw (c.loop-position.invariant.1, one) at c.join-pick.ensures in
     (omega arith, joined ∙ next)
-
-pub returns : goal.returns
-returns g c =
-    let G : Game = g.A.Arena.game c.args.self.now.arena.now in
-    let m = g.P.Joining in
-    let W : List ℕ = c.args.self.now.table.now in
-    let p : ℕ = c.args.self.now.place in
-    let row : List ℕ = seen_row G.rules c.args.self.now.cap W p in
-    let count : c.unwrap_or-count.result ≡ degree G.rules p =
-    c.unwrap_or-count.ensures ∙ rw c.move_count.ensures (count_known G p 0 c.args.self.now.here) in
-    let all = take_all c.loop-position.position row (omega (arith, seen_length G.rules c.args.self.now.cap W p)) in
-    record {
-      pick = c.loop-position.invariant.1 ∙ ap (folded m.neutral m.joined m.single 0) all;
-      looks = omega arith;
-    }

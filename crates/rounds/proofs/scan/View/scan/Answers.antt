@@ -1,39 +1,9 @@
-use Rattle.std.proofs.Common.{true, sym, refl, ◌∙◌, arith, ltb-true, lt-ltb}
+use Rattle.std.proofs.Common.{◌∙◌, ltb-true, lt-ltb}
 use Rattle.arena.specs.Game.{Game}
 use Rattle.arena.specs.declared.player.Player.TheVariants.{Runner}
 use Rattle.arena.proofs.Asked.{owner_known}
-use Rattle.theory.proofs.Plays.{not_clash}
-use Rattle.rounds.proofs.Scanned.{scan_nothing, scan_at}
+use Rattle.rounds.proofs.Scanned.{scan_at}
 use Rattle.rounds.proofs.scan.View.scan.Goals as goal
-
-pub overflow_cast-result : goal.overflow_cast-result
-overflow_cast-result g c =
-    let G : Game = g.A.Arena.game c.args.self.now.arena.now in
-    let e = c.unwrap_or-player.ensures ∙ rw c.owner.ensures (owner_known G c.args.self.now.place Runner c.args.self.now.here) in
-    let told = scan_at G.rules c.args.self.now.cap c.args.self.now.table.now c.args.self.now.place _ e c.args.self.now.sound.0 _ _ (rw c.in-At.is at c.pick_move-seen.ensures.pick) in
-    omega (arith, told.0, c.args.self.now.sound.0)
-
-pub returns-in-Runner : goal.returns-in-Runner
-returns-in-Runner g c =
-    let G : Game = g.A.Arena.game c.args.self.now.arena.now in
-    let e = c.unwrap_or-player.ensures ∙ rw c.owner.ensures (owner_known G c.args.self.now.place Runner c.args.self.now.here) in
-    let told = scan_nothing G.rules c.args.self.now.cap c.args.self.now.table.now c.args.self.now.place _ e (rw c.in-Nothing.is at c.pick_move-seen.ensures.pick) in
-    record {
-      word = told.0;
-      ready = ((λ _. told.1 c.in-Runner.is), (λ _. refl));
-      looks = c.pick_move-seen.ensures.looks;
-    }
-
-pub returns-in_default : goal.returns-in_default
-returns-in_default g c =
-    let G : Game = g.A.Arena.game c.args.self.now.arena.now in
-    let e = c.unwrap_or-player.ensures ∙ rw c.owner.ensures (owner_known G c.args.self.now.place Runner c.args.self.now.here) in
-    let told = scan_nothing G.rules c.args.self.now.cap c.args.self.now.table.now c.args.self.now.place _ e (rw c.in-Nothing.is at c.pick_move-seen.ensures.pick) in
-    record {
-      word = told.0;
-      ready = ((λ f. absurd (not_clash true refl (sym f))), (λ r. absurd (told.2 c.in_default.not-Runner r)));
-      looks = c.pick_move-seen.ensures.looks;
-    }
 
 pub returns-in-At : goal.returns-in-At
 returns-in-At g c =
