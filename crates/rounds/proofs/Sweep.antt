@@ -1,5 +1,5 @@
 -- A pass over the places that writes both words of each, or neither.
-use Rattle.std.proofs.Common.{◌≡◌, ℕ, ◌+◌, ◌*◌, ◌<◌, ◌≤◌, ◌≢◌, List, length, get_or, set, sym, refl, ◌∙◌, subst, arith, length-set, get_or-set_other, get_or-set_same}
+use Rattle.std.proofs.Common.{◌≡◌, ℕ, ◌+◌, ◌*◌, ◌<◌, ◌≤◌, ◌≢◌, List, length, get_or, set, sym, ◌∙◌, subst, arith, length-set, get_or-set_other, get_or-set_same}
 use native.Mathlib.Decide.{dec_lt}
 use Rattle.arena.specs.Game.{Game}
 
@@ -9,9 +9,6 @@ pub record Sweep (g : Game) (D : ℕ → ℕ → ℕ → Type 0) (p : ℕ) (W V 
   pub done : (k : ℕ) → k < p → D k (get_or V k 0) (get_or V (g.size + k) 0)
   pub ahead_marks : (k : ℕ) → p ≤ k → k < g.size → get_or V k 0 ≡ get_or W k 0
   pub ahead_moves : (k : ℕ) → p ≤ k → k < g.size → get_or V (g.size + k) 0 ≡ get_or W (g.size + k) 0
-
-pub sweep_start : (g : Game) (D : ℕ → ℕ → ℕ → Type 0) (W : List ℕ) → Sweep g D 0 W W
-sweep_start g D W = record { long = refl; done = λ k l. absurd (omega arith); ahead_marks = λ k h l. refl; ahead_moves = λ k h l. refl }
 
 pub two_sets : (V : List ℕ) (a b x y k : ℕ) → k ≢ a → k ≢ b → get_or (set (set V a x) b y) k 0 ≡ get_or V k 0
 two_sets V a b x y k n m = get_or-set_other (set V a x) b k y 0 m ∙ get_or-set_other V a k x 0 n

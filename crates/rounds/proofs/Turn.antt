@@ -6,7 +6,7 @@ use Rattle.arena.specs.Sound.{PlacesSound}
 use Rattle.marks.specs.Marks.{blank}
 use Rattle.rounds.specs.Words.{marks_of, Best, Ready, RoundWords, FinishWords, blanks, looks_of}
 use Rattle.rounds.proofs.Positions.{Alike, best_same, ready_same, best_plain}
-use Rattle.rounds.proofs.Sweep.{Sweep, sweep_start, sweep_keep, sweep_set, two_sets, two_first}
+use Rattle.rounds.proofs.Sweep.{Sweep, sweep_keep, sweep_set, two_sets, two_first}
 use Rattle.rounds.proofs.Counts.{weight_blank, weight_other, blanks_same}
 
 -- what a finish has written in the same pass is not seen
@@ -27,9 +27,6 @@ pub record Turn (g : Game) (i p : ℕ) (W V : List ℕ) (m l : ℕ) : Type 0 whe
   pub looks : l ≡ looks_of g.rules p W
   pub few : l ≤ 65535 * p
   pub most : m ≤ p
-
-pub turn_start : (g : Game) (i : ℕ) (W : List ℕ) → Turn g i 0 W W 0 0
-turn_start g i W = record { pass = sweep_start g (RoundWords g i W) W; count = refl; looks = refl; few = omega arith; most = omega arith }
 
 module _ (g : Game) (sound : PlacesSound g) (i p : ℕ) (small : i < blank) (lt : p < g.size) (W V : List ℕ) (m l : ℕ) (turn : Turn g i p W V m l) where
   at_place : marks_of V p ≡ marks_of W p
