@@ -23,8 +23,8 @@ fn mark_captures<A: Arena>(arena: &A, marks: &mut [u32])
     ensures long { length marks.new ≡ length marks.old }
     ensures marked { (p : ℕ) → p < (A.Arena.game arena.now).size → marks_of marks.new p ≡ (if (A.Arena.game arena.now).rules.capture p then 0 else 4294967294) }
 {
-    for place in 0..marks.len() {
-        marks[place] = first_mark(arena, place);
+    for (place, mark) in marks.iter_mut().enumerate() {
+        *mark = first_mark(arena, place);
     }
 }
 

@@ -15,6 +15,7 @@ fn close_blanks<A: Arena>(arena: &A, table: &mut [u32])
     ensures { Finished (A.Arena.game arena.now) table.old table.new }
 {
     let size = arena.size();
+    // the scan reads the table that the loop writes, so no iterator can hold it
     for place in 0..size {
         if table[place] == BLANK {
             let seen = View {

@@ -23,6 +23,7 @@ fn mark_ready<A: Arena>(arena: &A, table: &mut [u32], round: u32) -> Made
     let size = arena.size();
     let mut marked = 0;
     let mut looks = 0;
+    // the scan reads the table that the loop writes, so no iterator can hold it
     for place in 0..size {
         if table[place] == BLANK {
             let seen = View {
