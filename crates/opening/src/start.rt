@@ -1,8 +1,9 @@
-ghost use Rattle.std.specs.Prelude.{◌≡◌, ℕ, ◌<◌, [], if◌then◌else◌, MatchResult};
+ghost use Rattle.std.specs.Prelude.{◌≡◌, ℕ, ◌<◌, MatchResult};
 ghost use Rattle.board.specs.Boards.{spots_of};
 ghost use Rattle.opening.specs.Openings.{Opens};
 ghost use Rattle.opening.specs.Refused.{Cause, SameSize};
 ghost use Rattle.opening.specs.Rows.{Replies};
+ghost use Rattle.solver.specs.Shown.{shown};
 
 use crate::refusal::OpeningRefusal;
 use crate::rows::start_at;
@@ -21,7 +22,7 @@ pub struct Opening {
 
 // The opening of a board by a finished table: the first pursuer spot whose greatest mark is least, and the first runner spot with it.
 pub fn opening_of(board: &Board, finished: &Finished) -> Result<Opening, OpeningRefusal>
-    ensures { MatchResult result (λ o. SameSize board.now (if finished.now.accepted then finished.now.table.now else []) × Opens (spots_of board.now) (if finished.now.accepted then finished.now.table.now else []) o) (λ e. (e ≡ OpeningRefusal.Table) × Cause board.now (if finished.now.accepted then finished.now.table.now else []) 0 e) }
+    ensures { MatchResult result (λ o. SameSize board.now (shown finished.now) × Opens (spots_of board.now) (shown finished.now) o) (λ e. (e ≡ OpeningRefusal.Table) × Cause board.now (shown finished.now) 0 e) }
 {
     let words = finished.words();
     if words.len() != 2 * board.places() as usize {
@@ -40,7 +41,7 @@ pub fn opening_of(board: &Board, finished: &Finished) -> Result<Opening, Opening
 
 // The runner's reply to a pursuer start: the first runner spot with the greatest mark of its row.
 pub fn reply_to(board: &Board, finished: &Finished, spot: usize) -> Result<usize, OpeningRefusal>
-    ensures { MatchResult result (λ v. SameSize board.now (if finished.now.accepted then finished.now.table.now else []) × (spot < spots_of board.now) × ((m : ℕ) × Replies (spots_of board.now) (if finished.now.accepted then finished.now.table.now else []) spot m v)) (Cause board.now (if finished.now.accepted then finished.now.table.now else []) spot) }
+    ensures { MatchResult result (λ v. SameSize board.now (shown finished.now) × (spot < spots_of board.now) × ((m : ℕ) × Replies (spots_of board.now) (shown finished.now) spot m v)) (Cause board.now (shown finished.now) spot) }
 {
     let words = finished.words();
     if words.len() != 2 * board.places() as usize {

@@ -29,4 +29,4 @@ TrueEndless b R g V = Claims R (λ _. true) (λ x. marks_of V (fold b x)) (λ x.
 -- each with the mark and the move word of its folded place, the marks and both plans are so, against strategies that see the endless play
 pub record BoardSolved (b : Board) (traps : List ℕ) (rounds looks : ℕ) (V : List ℕ) : Type 0 where
   pub folded : Whole (trapped_game b traps) rounds looks V
-  pub endless : Claims (caught_too (endless_rules b) (on_trap b traps)) (λ _. true) (λ x. marks_of V (fold b x)) (λ x. moves_of (trapped_game b traps) V (fold b x))
+  pub endless : TrueEndless b (trapped_endless b traps) (trapped_game b traps) V

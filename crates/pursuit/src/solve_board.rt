@@ -18,7 +18,7 @@ pub fn solve_board<'a>(
     table: &'a mut [u32],
 ) -> Result<Finished<'a>, BoardRefusal>
     ensures claim { WholeClaim }
-    ensures solved { MatchResult result (λ f. (f.accepted ≡ true) × (length f.table.now ≡ length table.old) × BoardSolved arena.now.board traps.now f.rounds f.looks f.table.now) (BoardCause arena.now.board traps.now (length table.old)) }
+    ensures solved { MatchResult result (λ f. (f.accepted ≡ true) × (length f.table.now ≡ length table.old) × BoardSolved arena.now.board traps.now f.made.rounds f.made.looks f.table.now) (BoardCause arena.now.board traps.now (length table.old)) }
 {
     let bytes = match arena.trap_bytes(heap, traps) {
         Ok(bytes) => bytes,

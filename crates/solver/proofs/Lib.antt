@@ -7,4 +7,3 @@ pub mod Reaching
 pub mod Starting
 pub mod Ending
 pub mod Rounding
-pub mod Told

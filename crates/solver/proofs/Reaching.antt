@@ -82,6 +82,10 @@ reached_progress g s reached =
       | inr over ↦ record { after = over.1.after; looked = over.1.looked }
     ]
 
+-- a run that stays as it is
+pub reached_kept : (g : Game) (s : State) → Reached g s → Reached g s × Progress g s
+reached_kept g s reached = (reached, reached_progress g s reached)
+
 pub reached_whole : (g : Game) (s : State) (V : List ℕ) → Reached g s → s.settled ≡ true → Finished g s.words V → Whole g s.rounds s.looks V
 reached_whole g s V reached settled done =
     let holds = reached_holds g s reached in

@@ -1,5 +1,5 @@
 -- What a round says of the run, by what it made of the table.
-use Rattle.std.proofs.Common.{◌≡◌, ℕ, ◌+◌, ◌<◌, min, Bool, true, false, cond, eqb, ◌⊎◌, List, [], length, Ok, Err, Result, sym, refl, ap, ◌∙◌, subst, inl, inr, arith, eq-eqb, MatchResult}
+use Rattle.std.proofs.Common.{◌≡◌, ℕ, ◌+◌, ◌<◌, min, true, eqb, List, length, Ok, Err, Result, refl, ap, ◌∙◌, subst, inl, inr, arith, eq-eqb, MatchResult}
 use Rattle.arena.specs.Game.{Game}
 use Rattle.std.specs.Result.{result_unwrap_or}
 use Rattle.arena.specs.Unfit.{Fits, Cause}
@@ -7,11 +7,12 @@ use Rattle.arena.specs.declared.unfit.Unfit.{Unfit}
 use Rattle.rounds.specs.Rounds.{MarksRound}
 use Rattle.rounds.specs.Words.{Rounded, blanks, last_round}
 use Rattle.rounds.specs.declared.made.Made.{Made}
-use Rattle.solver.specs.State.{State, state, capped, AcceptsRound}
+use Rattle.solver.specs.State.{State, is_live, is_settled, state, capped, AcceptsRound}
+use Rattle.solver.specs.declared.phase.Phase.{Phase}
+use Rattle.solver.specs.declared.phase.Phase.TheVariants.{Open}
 use Rattle.solver.specs.Reached.{Reached, round}
 use Rattle.solver.specs.Progress.{Progress}
 use Rattle.arena.proofs.Fitting.{misfit}
-use Rattle.solver.proofs.Starting.{none_fits}
 use Rattle.solver.proofs.Reaching.{reached_more, reached_progress}
 
 -- a run that is told one round more
@@ -20,17 +21,16 @@ round_reached g s t m accepts reached =
     let more = reached_more g (round m) s t accepts reached in
     (more, reached_progress g t more)
 
--- a round that is made
-pub round_made : (g : Game) (live settled : Bool) (W V : List ℕ) (rounds next looks after : ℕ) (made : Made) → live ≡ true → settled ≡ false → Fits g (length W)
-    → MarksRound g (min next last_round) W V made → length V ≡ length W → next ≡ min (rounds + 1) last_round → after ≡ capped (looks + made.looks)
-    → AcceptsRound g (state live W rounds looks settled) (state live V next after (eqb made.marked 0)) made.marked
-round_made g live settled W V rounds next looks after made l s fits marks long number looked =
+-- a round that is made of a run that is open
+pub round_made : (g : Game) (before after : Phase) (W V : List ℕ) (rounds next looks total : ℕ) (made : Made) → before ≡ Open → is_live after ≡ true → is_settled after ≡ eqb made.marked 0 → Fits g (length W)
+    → MarksRound g (min next last_round) W V made → length V ≡ length W → next ≡ min (rounds + 1) last_round → total ≡ capped (looks + made.looks)
+    → AcceptsRound g (state (is_live before) W rounds looks (is_settled before)) (state (is_live after) V next total (is_settled after)) made.marked
+round_made g before after W V rounds next looks total made opened live settled fits marks long number looked =
     let i : min next last_round ≡ next = omega arith in
-    subst (λ (b : Bool). AcceptsRound g (state b W rounds looks settled) (state b V next after (eqb made.marked 0)) made.marked) (sym l)
-    (record {
+    rw (opened, live, settled) (record {
       fits = fits;
       made = inr (
-        s,
+        refl,
         record {
           number = number;
           rounded = subst (λ (k : ℕ). Rounded g k W V) i marks.rounded;
@@ -41,15 +41,6 @@ round_made g live settled W V rounds next looks after made l s fits marks long n
         },
       );
     })
-
--- a round of a run that is not live or is settled is accepted only if it is live
-pub round_idle : (g : Game) (live settled : Bool) (W : List ℕ) (rounds looks : ℕ) → (live ≡ false) ⊎ (settled ≡ true) → Fits g (length (cond live W []))
-    → AcceptsRound g (state live W rounds looks settled) (state live W rounds looks settled) 0
-round_idle g live settled W rounds looks way fits =
-    elim way [
-      | inl l ↦ absurd (none_fits g (subst (λ (b : Bool). Fits g (length (cond b W []))) l fits))
-      | inr s ↦ record { fits = fits; made = inl (s, refl, refl) }
-    ]
 
 -- the places that a round told an arena that fits has marked: none settles the run, some leave fewer blank marks
 pub round_counts : (g : Game) (s t : State) (r : Result ℕ Unfit) (X : Type 0) → Fits g (length s.words) → MatchResult r (AcceptsRound g s t) (λ e. Cause g (length s.words) e × X)

@@ -4,3 +4,4 @@ pub mod Whole
 pub mod FinishRefused
 pub mod Progress
 pub mod Ended
+pub mod Shown

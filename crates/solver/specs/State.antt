@@ -3,6 +3,9 @@ use Rattle.std.specs.Prelude.{◌≡◌, ℕ, ◌+◌, min, Bool, true, false, c
 use Rattle.arena.specs.Game.{Game}
 use Rattle.arena.specs.Unfit.{Fits}
 use Rattle.rounds.specs.Words.{Begun, Rounded, blanks, looks_of, last_round}
+use Rattle.solver.specs.declared.phase.Phase.{Phase}
+use Rattle.solver.specs.declared.phase.Phase.TheVariants.{Refused, Open, Settled}
+use Rattle.solver.specs.declared.run.Run.{Run}
 
 -- the words that a run works on, the rounds and the looks that it has made, and whether it is settled
 pub record State : Type 0 where
@@ -15,15 +18,35 @@ pub record State : Type 0 where
 abbrev pub state : Bool → List ℕ → ℕ → ℕ → Bool → State
 state live W r l s = record { words = cond live W []; rounds = r; looks = l; settled = s }
 
+-- a run is live but where its begin was refused
+abbrev pub is_live : Phase → Bool
+is_live Refused = false
+is_live Open = true
+is_live Settled = true
+
+-- it is settled once a round has marked no place
+abbrev pub is_settled : Phase → Bool
+is_settled Refused = false
+is_settled Open = false
+is_settled Settled = true
+
+-- whether the run is live
+abbrev pub live_of : Run → Bool
+live_of run = is_live run.phase
+
+-- what the run holds
+abbrev pub state_of : Run → State
+state_of run = state (is_live run.phase) run.table.now run.made.rounds run.made.looks (is_settled run.phase)
+
 -- a run before its first round
 abbrev pub start : List ℕ → State
 start W = record { words = W; rounds = 0; looks = 0; settled = false }
 
--- a begin on g turns the words W to V and gives a run: live with the table begun, or, where arena and table do not fit, with every word as it was
-abbrev pub Begins : Game → List ℕ → List ℕ → Bool → State → Type 0
-Begins g W V live s =
-    (Fits g (length W) × (live ≡ true) × (length V ≡ length W) × Begun g V × (s ≡ start V)) ⊎
-    ((Fits g (length W) → ⊥) × (live ≡ false) × (V ≡ W) × (s ≡ start []))
+-- a begin on g over the words W gives the run: live with the table begun, or, where arena and table do not fit, with every word as it was
+abbrev pub Begins : Game → List ℕ → Run → Type 0
+Begins g W run =
+    (Fits g (length W) × (live_of run ≡ true) × (length run.table.now ≡ length W) × Begun g run.table.now × (state_of run ≡ start run.table.now)) ⊎
+    ((Fits g (length W) → ⊥) × (live_of run ≡ false) × (run.table.now ≡ W) × (state_of run ≡ start []))
 
 -- a counter stops at the largest number of 64 bits
 abbrev pub capped : ℕ → ℕ

@@ -1,10 +1,9 @@
 -- All that is claimed of a finished table, and of the rounds and looks that made it.
 use Rattle.std.specs.Prelude.{◌≡◌, ℕ, zero, suc, ◌+◌, ◌<◌, ◌≤◌, false, cond, ◌⊎◌, List, nat_le}
 use Rattle.arena.specs.Game.{Game, Rules, degree, caught, places}
-use Rattle.arena.specs.Claims.{Claims}
-use Rattle.arena.specs.Folds.{Folds}
 use Rattle.arena.specs.Labels.{Labelled}
 use Rattle.arena.specs.Levels.{ByLevels, CountsAttractor}
+use Rattle.arena.specs.Tables.{TrueTable, TrueFolded}
 use Rattle.marks.specs.Marks.{never}
 use Rattle.rounds.specs.Words.{Best, marks_of, moves_of}
 
@@ -26,8 +25,8 @@ pub record LongestCount (g : Game) (μ : ℕ → ℕ) (K : ℕ) : Type 0 where
 -- What a finished table V claims, in so many words: the marks and both plans are so, of whole plays, in the game and in every game that folds onto it;
 -- the marks are levels and labels, the counts the attractor; each move word is the first best; rounds are one more than the longest count, and looks the sum.
 pub record Whole (g : Game) (rounds looks : ℕ) (V : List ℕ) : Type 0 where
-  pub claims : Claims g.rules (places g) (marks_of V) (moves_of g V)
-  pub folded : (R : Rules) (φ : ℕ → ℕ) → Folds R g.rules φ → Claims R (λ x. places g (φ x)) (λ x. marks_of V (φ x)) (λ x. moves_of g V (φ x))
+  pub claims : TrueTable g V
+  pub folded : TrueFolded g V
   pub levels : ByLevels g.rules (places g) (marks_of V)
   pub labels : Labelled g.rules (places g) (marks_of V)
   pub attractor : CountsAttractor g.rules (places g) (marks_of V)

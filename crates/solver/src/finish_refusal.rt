@@ -1,4 +1,5 @@
 ghost use Rattle.solver.specs.FinishRefused.{told};
+ghost use Rattle.solver.specs.declared.finish_refusal.FinishRefusal.TheVariants.{Misfit};
 ghost use Rattle.std.specs.Prelude.{◌≡◌};
 
 use arena::unfit::Unfit;
@@ -21,5 +22,14 @@ impl FinishRefusal {
             FinishRefusal::Misfit(why) => why.number(),
             FinishRefusal::Unsettled => 18,
         }
+    }
+}
+
+// A table that does not fit is not finished.
+impl From<Unfit> for FinishRefusal {
+    ghost from_gives = { λ why refusal. refusal ≡ Misfit why };
+
+    fn from(why: Unfit) -> FinishRefusal {
+        Self::Misfit(why)
     }
 }

@@ -1,30 +1,33 @@
-ghost use Rattle.std.specs.Prelude.{◌≡◌, ◌/◌, [], length, take, if◌then◌else◌};
+ghost use Rattle.std.specs.Prelude.{◌≡◌};
 ghost use Rattle.marks.specs.Tallies.{Tallied};
 ghost use Rattle.marks.specs.Unique.{TheOne};
+ghost use Rattle.solver.specs.Shown.{shown, shown_marks};
 
+use crate::counters::Counters;
 use marks::row::tally;
 use marks::tally::Tally;
 
 // A finished table, to read. That of a finish that was declined is empty.
+// It has a flag and no `Option` of the table: a declined finish promises what it left in the table, and a clause can
+// name the words of a loan that went into a result there alone.
 #[derive(Clone, Copy)]
 pub struct Finished<'a> {
     pub(crate) table: &'a [u32],
-    pub(crate) rounds: u32,
-    pub(crate) looks: u64,
+    pub(crate) made: Counters,
     pub(crate) accepted: bool,
 }
 
 impl<'a> Finished<'a> {
     // The words: a mark for each place, then a move word for each.
     pub fn words(&self) -> &[u32]
-        ensures { result.now ≡ (if self.now.accepted then self.now.table.now else []) }
+        ensures { result.now ≡ shown self.now }
     {
         if self.accepted { self.table } else { &[] }
     }
 
     // The marks.
     pub fn marks(&self) -> &[u32]
-        ensures { result.now ≡ take (length (if self.now.accepted then self.now.table.now else []) / 2) (if self.now.accepted then self.now.table.now else []) }
+        ensures { result.now ≡ shown_marks self.now }
     {
         let words = self.words();
         &words[0..words.len() / 2]
@@ -39,21 +42,21 @@ impl<'a> Finished<'a> {
 
     // The rounds that the run made.
     pub fn rounds(&self) -> u32
-        ensures { result ≡ self.now.rounds }
+        ensures { result ≡ self.now.made.rounds }
     {
-        self.rounds
+        self.made.rounds
     }
 
     // The looks that the run made.
     pub fn looks(&self) -> u64
-        ensures { result ≡ self.now.looks }
+        ensures { result ≡ self.now.made.looks }
     {
-        self.looks
+        self.made.looks
     }
 
     // The tally of all marks.
     pub fn tally(&self) -> Tally
-        ensures { TheOne (Tallied (take (length (if self.now.accepted then self.now.table.now else []) / 2) (if self.now.accepted then self.now.table.now else []))) result }
+        ensures { TheOne (Tallied (shown_marks self.now)) result }
     {
         tally(self.marks())
     }

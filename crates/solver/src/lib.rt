@@ -1,9 +1,11 @@
 //! Runs over a table: begin, round, finish and abandon, and a whole solve.
 #![tactic(auto)]
 
+mod counters;
 mod end;
 pub mod finish_refusal;
 pub mod finished;
+mod phase;
 pub mod run;
 pub mod solve;
 

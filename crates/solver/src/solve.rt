@@ -2,10 +2,12 @@ ghost use Rattle.std.specs.Prelude.{◌≡◌, ℕ, true, length, take, MatchRes
 ghost use Rattle.arena.specs.Unfit.{Cause, Fits};
 ghost use Rattle.marks.specs.Tallies.{Tallied};
 ghost use Rattle.marks.specs.Unique.{TheOne};
+ghost use Rattle.solver.specs.Reached.{Reached};
+ghost use Rattle.solver.specs.State.{state_of};
 ghost use Rattle.solver.specs.Whole.{Whole};
 
 use crate::finished::Finished;
-use crate::run::{Counters, begin, can_begin};
+use crate::run::{Run, begin, can_begin};
 use arena::unfit::Unfit;
 use arena::{Arena, admitted};
 use marks::row::tally;
@@ -19,14 +21,16 @@ pub struct Solved {
     pub tally: Tally,
 }
 
-// Begins, makes rounds until the run is settled, and finishes in place.
-fn run_out<A: Arena>(arena: &A, table: &mut [u32]) -> Counters
+// A run on the arena with the table, after rounds until it is settled.
+fn settled_run<'a, A: Arena>(arena: &A, table: &'a mut [u32]) -> Run<'a>
     requires { Fits (A.Arena.game arena.now) (length table.old) }
-    ensures { Whole (A.Arena.game arena.now) result.rounds result.looks table.new }
+    ensures bound { result.table.ghost_name ≡ table.entry.ghost_name }
+    ensures reached { Reached (A.Arena.game arena.now) (state_of result) }
+    ensures settled { (state_of result).settled ≡ true }
 {
     let mut run = begin(arena, table);
     run.settle(arena);
-    run.close(arena)
+    run
 }
 
 // Solves the game of an arena into the table: for each place its mark, and then for each its move word.
@@ -34,7 +38,7 @@ pub fn solve<A: Arena>(arena: &A, table: &mut [u32]) -> Result<Solved, Unfit>
     ensures { MatchResult result (λ s. Fits (A.Arena.game arena.now) (length table.old) × Whole (A.Arena.game arena.now) s.rounds s.looks table.new × TheOne (Tallied (take (A.Arena.game arena.now).size table.new)) s.tally) (λ e. Cause (A.Arena.game arena.now) (length table.old) e × (table.new ≡ table.old)) }
 {
     admitted(arena, table.len())?;
-    let made = run_out(arena, table);
+    let made = settled_run(arena, table).close(arena);
     Ok(Solved {
         rounds: made.rounds,
         looks: made.looks,
@@ -44,10 +48,9 @@ pub fn solve<A: Arena>(arena: &A, table: &mut [u32]) -> Result<Solved, Unfit>
 
 // The same, with the table given back as a finished one, to read.
 pub fn solve_to_read<'a, A: Arena>(arena: &A, table: &'a mut [u32]) -> Result<Finished<'a>, Unfit>
-    ensures { MatchResult result (λ f. Fits (A.Arena.game arena.now) (length table.old) × (f.accepted ≡ true) × (length f.table.now ≡ length table.old) × Whole (A.Arena.game arena.now) f.rounds f.looks f.table.now) (Cause (A.Arena.game arena.now) (length table.old)) }
+    ensures { MatchResult result (λ f. Fits (A.Arena.game arena.now) (length table.old) × (f.accepted ≡ true) × (length f.table.now ≡ length table.old) × Whole (A.Arena.game arena.now) f.made.rounds f.made.looks f.table.now) (Cause (A.Arena.game arena.now) (length table.old)) }
 {
     can_begin(arena, table)?;
-    let mut run = begin(arena, table);
-    run.settle(arena);
+    let run = settled_run(arena, table);
     Ok(run.finish(arena))
 }
