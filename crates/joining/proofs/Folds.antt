@@ -7,21 +7,13 @@ use Rattle.joining.specs.Meaning.{Meaning}
 use Rattle.joining.specs.Pairs.{paired, side_by_side}
 use Rattle.joining.specs.Rows.{folded, Cut}
 
--- what goes through the empty element, the join and single marks goes through the fold
-module _ {J K : Type 0} (f : J → K) (from : Meaning J) (to : Meaning K) where
-  pub folded_through :
-      f from.neutral ≡ to.neutral → ((x y : J) → f (from.joined x y) ≡ to.joined (f x) (f y)) → ((mark position : ℕ) → f (from.single mark position) ≡ to.single mark position) →
-      (first : ℕ) (row : List ℕ) → f (folded from first row) ≡ folded to first row
-  folded_through empty join one first [] = empty
-  folded_through empty join one first (mark ∷ marks) =
-      rw (join, one) (ap (to.joined _) (folded_through empty join one (first + 1) marks))
-
 -- the fold by a pair of joinings is the pair of both folds
 module _ {A B : Type 0} (left : Meaning A) (right : Meaning B) where
   pub folded_parts : (first : ℕ) (row : List ℕ) → folded (side_by_side left right) first row ≡ paired (folded left first row) (folded right first row)
   folded_parts first [] = refl
   folded_parts first (mark ∷ marks) =
-      ap ((side_by_side left right).joined ((side_by_side left right).single mark (first % 2 ^ 64))) (folded_parts (first + 1) marks)
+      let both = side_by_side left right in
+      ap (both.joined (both.single mark (first % 2 ^ 64))) (folded_parts (first + 1) marks)
 
 -- what the laws give
 module _ {J : Type 0} {m : Meaning J} (laws : Laws m) where

@@ -1,4 +1,4 @@
-ghost use Rattle.joining.specs.Pairs.{side_by_side};
+ghost use Rattle.joining.specs.Pairs.{paired, side_by_side};
 ghost use Rattle.std.proofs.Common.{rules};
 
 use crate::joining::Joining;
@@ -16,16 +16,13 @@ impl<A: Joining, B: Joining> Joining for Pair<A, B> {
         second: B::EMPTY,
     };
 
+    ghost EMPTY = { paired A.Joining.EMPTY B.Joining.EMPTY };
+
     ghost meaning = { side_by_side A.meaning B.meaning };
 
-    ghost lawful = { Prim.search rules };
+    ghost empty_is_neutral = { Prim.search rules };
 
-    fn start() -> Pair<A, B> {
-        Pair {
-            first: A::start(),
-            second: B::start(),
-        }
-    }
+    ghost lawful = { Prim.search rules };
 
     fn join(self, other: Pair<A, B>) -> Pair<A, B> {
         Pair {
