@@ -9,9 +9,7 @@ ghost use Rattle.rounds.specs.Words.{Best, Ready, marks_of, order_of};
 use arena::{Arena, Player};
 use joining::joining::Joining;
 use marks::mark::NONE;
-use marks::pick::Pick;
-use marks::pursuer::PursuerPick;
-use marks::runner::RunnerPick;
+use marks::pick::{Entry, PursuerPick, RunnerPick};
 
 // What the looks at the moves of one place came to, and how many they were.
 #[derive(Clone, Copy)]
@@ -25,7 +23,7 @@ fn look_round<A: Arena, P: Joining>(arena: &A, table: &[u32], place: usize, cap:
     requires place { place < (A.Arena.game arena.now).size }
     requires sound { SoundAt (A.Arena.game arena.now) place }
     requires fits { (A.Arena.game arena.now).size ≤ length table.now }
-    ensures pick { result.pick ≡ folded P.Joining.neutral P.Joining.joined P.Joining.single 0 (seen_row (A.Arena.game arena.now).rules cap table.now place) }
+    ensures pick { result.pick ≡ folded P.meaning 0 (seen_row (A.Arena.game arena.now).rules cap table.now place) }
     ensures looks { result.looks ≡ degree (A.Arena.game arena.now).rules place }
 {
     let mut pick = P::start();
@@ -42,14 +40,14 @@ fn look_round<A: Arena, P: Joining>(arena: &A, table: &[u32], place: usize, cap:
     Looked { pick, looks }
 }
 
-// The pick of the player among the moves of the place.
+// The pick of the player among the moves of the place. The player is data of the arena, so this one switch to a wish stays.
 fn pick_move<A: Arena>(
     arena: &A,
     table: &[u32],
     place: usize,
     cap: u32,
     player: Player,
-) -> Looked<Pick>
+) -> Looked<Option<Entry>>
     requires place { place < (A.Arena.game arena.now).size }
     requires sound { SoundAt (A.Arena.game arena.now) place }
     requires fits { (A.Arena.game arena.now).size ≤ length table.now }
@@ -60,14 +58,14 @@ fn pick_move<A: Arena>(
         Player::Pursuer => {
             let seen: Looked<PursuerPick> = look_round(arena, table, place, cap);
             Looked {
-                pick: seen.pick.pick,
+                pick: seen.pick.entry,
                 looks: seen.looks,
             }
         }
         Player::Runner => {
             let seen: Looked<RunnerPick> = look_round(arena, table, place, cap);
             Looked {
-                pick: seen.pick.pick,
+                pick: seen.pick.entry,
                 looks: seen.looks,
             }
         }
@@ -94,14 +92,14 @@ pub(crate) fn scan_place<A: Arena>(arena: &A, table: &[u32], place: usize, cap: 
     let player = arena.owner(place).unwrap_or(Player::Runner);
     let seen = pick_move(arena, table, place, cap, player);
     match seen.pick {
-        Pick::Nothing => Scan {
+        None => Scan {
             word: NONE,
             ready: matches!(player, Player::Runner),
             looks: seen.looks,
         },
-        Pick::At { mark, position } => Scan {
-            word: position as u32,
-            ready: mark < cap,
+        Some(entry) => Scan {
+            word: entry.position as u32,
+            ready: entry.mark < cap,
             looks: seen.looks,
         },
     }

@@ -20,15 +20,14 @@ loop-position-preserved g c =
     c.min-mark.ensures ∙ ap (λ (q : ℕ). min (marks_of W q) c.args.cap) there.1 ∙ sym (seen_at G.rules c.args.cap W p i there.0) in
     let here : i ≡ (0 + i) % 2 ^ 64 = omega arith in
     let next = total_next g.met.P.Joining.lawful 0 row i 0 (omega (arith, there.0, seen_length G.rules c.args.cap W p)) in
-    let one : c.count_as.result ≡ g.P.Joining.single (get_or row i 0) ((0 + i) % 2 ^ 64) =
-    c.count_as.ensures ∙ ap (λ (m : ℕ). g.P.Joining.single m i) mark ∙ ap (g.P.Joining.single (get_or row i 0)) here in
+    let one : c.count_as.result ≡ g.P.Joining.meaning.single (get_or row i 0) ((0 + i) % 2 ^ 64) =
+    c.count_as.ensures ∙ ap (λ (m : ℕ). g.P.Joining.meaning.single m i) mark ∙ ap (g.P.Joining.meaning.single (get_or row i 0)) here in
     let joined = rw (c.loop-position.invariant.1, one) at c.join-pick.ensures in
     (omega arith, joined ∙ next)
 
 pub returns : goal.returns
 returns g c =
     let G : Game = g.A.Arena.game c.args.arena.now in
-    let m = g.P.Joining in
     let W : List ℕ = c.args.table.now in
     let p : ℕ = c.args.place in
     let row : List ℕ = seen_row G.rules c.args.cap W p in
@@ -36,6 +35,6 @@ returns g c =
     c.unwrap_or-count.ensures ∙ rw c.move_count.ensures (count_known G p 0 c.requires.place) in
     let all = take_all c.loop-position.position row (omega (arith, seen_length G.rules c.args.cap W p)) in
     record {
-      pick = c.loop-position.invariant.1 ∙ ap (folded m.neutral m.joined m.single 0) all;
+      pick = c.loop-position.invariant.1 ∙ ap (folded g.P.Joining.meaning 0) all;
       looks = omega arith;
     }
