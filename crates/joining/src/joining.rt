@@ -1,28 +1,32 @@
-ghost use Rattle.std.specs.Prelude.{◌≡◌, ℕ};
+ghost use Rattle.std.specs.Prelude.{◌≡◌};
 ghost use Rattle.joining.specs.Laws.{Laws};
+ghost use Rattle.joining.specs.Meaning.{Meaning};
 
 // Values that join in order: an empty one, the join of two, and what one mark at a position counts as.
 pub trait Joining: Sized + Copy {
-    // The empty element, for code at a known type. Generic code calls `start`, whose contract says what it is.
+    // The empty element.
     const EMPTY: Self;
 
-    ghost neutral: { Self };
+    ghost EMPTY: { Self };
 
-    ghost joined: { Self → Self → Self };
+    // The empty element, the join, what one mark counts as, and the values that the words of `Self` can hold.
+    ghost meaning: { Meaning Self };
 
-    ghost single: { ℕ → ℕ → Self };
-
-    // The values that the words of `Self` can hold: the logic reads a word as any number, however large.
-    ghost holds: { Self → Type 0 };
-
+    // The empty element, where a function is wanted.
     fn start() -> Self
-        ensures { result ≡ neutral };
+        ensures { result ≡ meaning.neutral }
+    {
+        Self::EMPTY
+    }
 
     fn join(self, other: Self) -> Self
-        ensures { result ≡ joined self other };
+        ensures { result ≡ meaning.joined self other };
 
     fn count_as(mark: u32, position: u64) -> Self
-        ensures { result ≡ single mark position };
+        ensures { result ≡ meaning.single mark position };
 
-    ghost lawful: { Laws neutral joined single holds };
+    // What each `impl` proves.
+    ghost empty_is_neutral: { EMPTY ≡ meaning.neutral };
+
+    ghost lawful: { Laws meaning };
 }

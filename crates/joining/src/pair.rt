@@ -1,4 +1,4 @@
-ghost use Rattle.joining.specs.Pairs.{paired, joined_parts, single_parts};
+ghost use Rattle.joining.specs.Pairs.{paired, side_by_side};
 ghost use Rattle.std.proofs.Common.{rules};
 
 use crate::joining::Joining;
@@ -16,22 +16,13 @@ impl<A: Joining, B: Joining> Joining for Pair<A, B> {
         second: B::EMPTY,
     };
 
-    ghost neutral = { paired A.Joining.neutral B.Joining.neutral };
+    ghost EMPTY = { paired A.Joining.EMPTY B.Joining.EMPTY };
 
-    ghost joined = { joined_parts A.Joining.joined B.Joining.joined };
+    ghost meaning = { side_by_side A.meaning B.meaning };
 
-    ghost single = { single_parts A.Joining.single B.Joining.single };
-
-    ghost holds = { λ x. A.Joining.holds x.first × B.Joining.holds x.second };
+    ghost empty_is_neutral = { Prim.search rules };
 
     ghost lawful = { Prim.search rules };
-
-    fn start() -> Pair<A, B> {
-        Pair {
-            first: A::start(),
-            second: B::start(),
-        }
-    }
 
     fn join(self, other: Pair<A, B>) -> Pair<A, B> {
         Pair {

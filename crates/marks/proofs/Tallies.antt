@@ -4,7 +4,7 @@ use Rattle.std.proofs.lemmas.List.Sums.{sum_by-cons}
 use Rattle.std.proofs.lemmas.Bool.{cases_lt, cond-true, cond_both}
 use Rattle.joining.specs.Rows.{folded}
 use Rattle.marks.specs.Marks.{is_capture, is_counted, is_never}
-use Rattle.marks.specs.Tallies.{capped, count_of, one_if, Taken, Longest, Tallied, no_marks, tallied, summed}
+use Rattle.marks.specs.Tallies.{capped, count_of, one_if, Taken, Longest, Tallied, counting}
 use Rattle.marks.specs.Unique.{TheOne}
 use Rattle.marks.specs.declared.tally.Tally.{Tally}
 
@@ -38,7 +38,7 @@ longest_front m ms n l =
       ];
     }
 
-folded_tallied : (first : ℕ) (row : List ℕ) → Tallied row (folded no_marks summed (λ mark _. tallied mark) first row)
+folded_tallied : (first : ℕ) (row : List ℕ) → Tallied row (folded counting first row)
 folded_tallied first [] =
     record { captures = refl; counts = refl; nevers = refl; greatest = record { bounds = λ i lt. absurd (omega arith); taken = inl refl } }
 folded_tallied first (m ∷ ms) =
@@ -65,7 +65,7 @@ tallied_same row s t a b =
     λ i. record { capture = captures i; counted = counts i; never = nevers i; longest = longest i }
 
 -- the fold by the tally tallies the row
-pub tally_tallies : (first : ℕ) (row : List ℕ) (r : Tally) → r ≡ folded no_marks summed (λ mark _. tallied mark) first row → TheOne (Tallied row) r
+pub tally_tallies : (first : ℕ) (row : List ℕ) (r : Tally) → r ≡ folded counting first row → TheOne (Tallied row) r
 tally_tallies first row r e =
     let has = subst (Tallied row) (sym e) (folded_tallied first row) in
     record { has = has; only = λ s is. tallied_same row s r is has }

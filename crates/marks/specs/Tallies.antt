@@ -1,5 +1,6 @@
 -- What the tally of a row of marks is.
 use Rattle.std.specs.Prelude.{◌≡◌, ℕ, ◌+◌, ◌<◌, ◌≤◌, min, max, Bool, true, cond, ◌⊎◌, List, length, count_by, slice_index}
+use Rattle.joining.specs.Meaning.{Meaning}
 use Rattle.marks.specs.Marks.{is_capture, is_counted, is_never}
 use Rattle.marks.specs.declared.tally.Tally.{Tally}
 
@@ -60,3 +61,7 @@ pub record Words (tally : Tally) : Type 0 where
   pub capture_word : tally.capture ≤ 4294967295
   pub counted_word : tally.counted ≤ 4294967295
   pub never_word : tally.never ≤ 4294967295
+
+-- What counting marks means.
+abbrev pub counting : Meaning Tally
+counting = record { neutral = no_marks; joined = summed; single = λ mark _. tallied mark; holds = Words }

@@ -1,3 +1,6 @@
+// Marks and move words stay plain numbers, with these for the kinds: each is one word of the table that the caller lends, and marks
+// are compared as numbers.
+
 // A place that has no mark yet.
 pub const BLANK: u32 = 4294967294;
 

@@ -1,4 +1,4 @@
-ghost use Rattle.marks.specs.Tallies.{no_marks, summed, tallied, Words};
+ghost use Rattle.marks.specs.Tallies.{counting, no_marks};
 ghost use Rattle.std.proofs.Common.{rules};
 
 use crate::mark::{BLANK, NEVER};
@@ -21,19 +21,13 @@ impl Joining for Tally {
         longest: 0,
     };
 
-    ghost neutral = { no_marks };
+    ghost EMPTY = { no_marks };
 
-    ghost joined = { summed };
+    ghost meaning = { counting };
 
-    ghost single = { λ mark _. tallied mark };
-
-    ghost holds = { Words };
+    ghost empty_is_neutral = { Prim.search rules };
 
     ghost lawful = { Prim.search rules };
-
-    fn start() -> Tally {
-        Self::EMPTY
-    }
 
     fn join(self, other: Tally) -> Tally {
         Tally {

@@ -1,7 +1,6 @@
 -- The marks where a game starts: at step 0 with the pursuer to move, a row for each pursuer spot, and in it a mark for each runner spot.
 use Rattle.std.specs.Prelude.{ℕ, ◌*◌, List, take, drop}
-use Rattle.marks.specs.Picks.{FirstBest}
-use Rattle.marks.specs.declared.pick.Order.TheVariants.{Greatest}
+use Rattle.marks.specs.Picks.{Greatest, FirstBest}
 
 -- the row of the pursuer spot c, of n spots: the place with the runner at r is number c * n + r
 abbrev pub row : ℕ → List ℕ → ℕ → List ℕ

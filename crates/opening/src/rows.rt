@@ -2,7 +2,6 @@ ghost use Rattle.std.specs.Prelude.{◌+◌, ◌*◌, ◌<◌, ◌≤◌, length
 ghost use Rattle.opening.specs.Openings.{Starts};
 
 use crate::start::Opening;
-use marks::pick::Pick;
 use marks::row::runner_pick_and_tally;
 
 // The runner's best reply to a pursuer start, in one pass over its row.
@@ -15,13 +14,13 @@ pub(crate) fn start_at(marks: &[u32], spots: usize, pursuer: usize) -> Opening
 {
     let from = pursuer * spots;
     let both = runner_pick_and_tally(&marks[from..from + spots]);
-    let Pick::At { mark, position } = both.first.pick else {
+    let Some(reply) = both.first.entry else {
         unreachable()
     };
     Opening {
         pursuer,
-        runner: position as usize,
-        mark,
+        runner: reply.position as usize,
+        mark: reply.mark,
         tally: both.second,
     }
 }

@@ -7,9 +7,7 @@ use Rattle.arena.specs.Game.{Game, Rules, degree, move}
 use Rattle.arena.specs.Sound.{PlacesSound}
 use Rattle.theory.proofs.Plays.{not_both}
 use Rattle.marks.specs.Marks.{blank, never}
-use Rattle.marks.specs.Picks.{NoWorse}
-use Rattle.marks.specs.declared.pick.Order.{Order}
-use Rattle.marks.specs.declared.pick.Order.TheVariants.{Least, Greatest}
+use Rattle.marks.specs.Picks.{Order, Least, Greatest, NoWorse}
 use Rattle.rounds.specs.Words.{FirstPosition, Best, Ready, order_of, marks_of, closed_marks}
 
 -- values that are equal at each position

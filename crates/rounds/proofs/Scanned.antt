@@ -1,5 +1,5 @@
 -- What a pick from the row that is seen from a place says of the place.
-use Rattle.std.proofs.Common.{◌≡◌, ℕ, ◌<◌, ◌≤◌, min, List, length, get_or, sym, refl, ap, ◌∙◌, subst, inl, inr, arith}
+use Rattle.std.proofs.Common.{◌≡◌, ℕ, ◌<◌, ◌≤◌, min, List, length, Some, None, get_or, sym, refl, ap, ◌∙◌, subst, inl, inr, arith}
 use lib.ListN.{length-map}
 use Rattle.std.proofs.lemmas.List.{get_or-map}
 use Rattle.arena.specs.declared.player.Player.{Player}
@@ -7,9 +7,8 @@ use Rattle.arena.specs.declared.player.Player.TheVariants.{Pursuer, Runner}
 use Rattle.arena.specs.Game.{Rules, degree, move}
 use Rattle.theory.proofs.Plays.{sides, not_both}
 use Rattle.marks.specs.Marks.{none}
-use Rattle.marks.specs.Picks.{NoWorse, FirstBest, Picked}
-use Rattle.marks.specs.declared.pick.Order.{Order}
-use Rattle.marks.specs.declared.pick.Pick.TheVariants.{Nothing, At}
+use Rattle.marks.specs.Picks.{Order, NoWorse, FirstBest, Picked}
+use Rattle.marks.specs.declared.pick.Entry.{Entry}
 use Rattle.marks.proofs.Picks.{picked_index}
 use Rattle.rounds.specs.Scans.{seen_row}
 use Rattle.rounds.specs.Words.{FirstPosition, Best, Ready, order_of, marks_of}
@@ -25,9 +24,12 @@ module _ (R : Rules) (c : ℕ) (W : List ℕ) (p : ℕ) where
   seen_at k l = get_or-map (λ q. min (marks_of W q) c) (R.moves p) k 0 0 l
 
   -- an entry is picked: its position, and its mark
-  pub picked_at : (order : Order) (m j : ℕ) → degree R p ≤ 65535 → Picked order 0 (seen_row R c W p) (At m j) → (j < degree R p) × (m ≡ seen j) × FirstPosition order seen (degree R p) j
-  picked_at order m j few picked =
-      let b : FirstBest order (seen_row R c W p) m j = picked_index order (seen_row R c W p) m j (omega (arith, seen_length)) picked in
+  pub picked_at : (order : Order) (entry : Entry) → degree R p ≤ 65535 → Picked order 0 (seen_row R c W p) (Some entry)
+      → (entry.position < degree R p) × (entry.mark ≡ seen entry.position) × FirstPosition order seen (degree R p) entry.position
+  picked_at order entry few picked =
+      let m : ℕ = entry.mark in
+      let j : ℕ = entry.position in
+      let b : FirstBest order (seen_row R c W p) m j = picked_index order (seen_row R c W p) entry (omega (arith, seen_length)) picked in
       let l : j < degree R p = omega (arith, b.within, seen_length) in
       let e : m ≡ seen j = sym b.there ∙ seen_at j l in (
         l,
@@ -41,7 +43,7 @@ module _ (R : Rules) (c : ℕ) (W : List ℕ) (p : ℕ) where
       )
 
   -- nothing is picked: there is no move
-  pub picked_nothing : (order : Order) → Picked order 0 (seen_row R c W p) Nothing → degree R p ≡ 0
+  pub picked_nothing : (order : Order) → Picked order 0 (seen_row R c W p) None → degree R p ≡ 0
   picked_nothing order e = sym seen_length ∙ ap length e
 
   pub nowhere : (order : Order) → degree R p ≡ 0 → FirstPosition order seen (degree R p) none
@@ -71,7 +73,7 @@ module _ (R : Rules) (c : ℕ) (W : List ℕ) (p : ℕ) where
   )
 
   -- what a scan says: of a place without a move
-  pub scan_nothing : (s : Player) → s ≡ R.owner p → Picked (order_of s) 0 (seen_row R c W p) Nothing
+  pub scan_nothing : (s : Player) → s ≡ R.owner p → Picked (order_of s) 0 (seen_row R c W p) None
       → Best R (λ q. min (marks_of W q) c) p none × (s ≡ Runner → Ready R c W p) × ((s ≡ Runner → ⊥) → Ready R c W p → ⊥)
   scan_nothing s e picked =
       let z : degree R p ≡ 0 = picked_nothing (order_of s) picked in (
@@ -81,10 +83,10 @@ module _ (R : Rules) (c : ℕ) (W : List ℕ) (p : ℕ) where
       )
 
   -- and of one with moves
-  pub scan_at : (s : Player) → s ≡ R.owner p → degree R p ≤ 65535 → (m j : ℕ) → Picked (order_of s) 0 (seen_row R c W p) (At m j)
-      → (j < degree R p) × Best R (λ q. min (marks_of W q) c) p j × (m < c → Ready R c W p) × (Ready R c W p → m < c)
-  scan_at s e few m j picked =
-      let (l, mark, first) = picked_at (order_of s) m j few picked in
-      let b = subst (λ (x : Player). FirstPosition (order_of x) seen (degree R p) j) e first in
-      let ready = ready_from (R.owner p) refl j l b in
+  pub scan_at : (s : Player) → s ≡ R.owner p → degree R p ≤ 65535 → (entry : Entry) → Picked (order_of s) 0 (seen_row R c W p) (Some entry)
+      → (entry.position < degree R p) × Best R (λ q. min (marks_of W q) c) p entry.position × (entry.mark < c → Ready R c W p) × (Ready R c W p → entry.mark < c)
+  scan_at s e few entry picked =
+      let (l, mark, first) = picked_at (order_of s) entry few picked in
+      let b = subst (λ (x : Player). FirstPosition (order_of x) seen (degree R p) entry.position) e first in
+      let ready = ready_from (R.owner p) refl entry.position l b in
       (l, b, (λ h. ready.0 (omega arith)), (λ r. omega (arith, ready.1 r)))

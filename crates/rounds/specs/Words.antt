@@ -6,9 +6,7 @@ use Rattle.arena.specs.Game.{Game, Rules, degree, move}
 use Rattle.arena.specs.Levels.{Grows}
 pub use Rattle.arena.specs.Tables.{marks_of, moves_of}
 use Rattle.marks.specs.Marks.{blank, never, none}
-use Rattle.marks.specs.Picks.{NoWorse}
-use Rattle.marks.specs.declared.pick.Order.{Order}
-use Rattle.marks.specs.declared.pick.Order.TheVariants.{Least, Greatest}
+use Rattle.marks.specs.Picks.{Order, Least, Greatest, NoWorse}
 
 -- the pursuer wants the least mark, the runner the greatest
 abbrev pub order_of : Player → Order

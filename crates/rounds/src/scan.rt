@@ -1,7 +1,6 @@
 ghost use Rattle.std.specs.Prelude.{◌≡◌, ℕ, ◌+◌, ◌*◌, ◌<◌, ◌≤◌, min, length, Decides};
 ghost use Rattle.arena.specs.Game.{degree};
 ghost use Rattle.arena.specs.Sound.{SoundAt};
-ghost use Rattle.joining.specs.Rows.{folded};
 ghost use Rattle.marks.specs.Picks.{Picked};
 ghost use Rattle.rounds.specs.Scans.{seen_row};
 ghost use Rattle.rounds.specs.Words.{Best, Ready, marks_of, order_of};
@@ -9,14 +8,13 @@ ghost use Rattle.rounds.specs.Words.{Best, Ready, marks_of, order_of};
 use arena::{Arena, Player};
 use joining::joining::Joining;
 use marks::mark::NONE;
-use marks::pick::Pick;
-use marks::pursuer::PursuerPick;
-use marks::runner::RunnerPick;
+use marks::pick::{Entry, Pick};
+use marks::wish::{Greatest, Least, Wish};
 
 // What the looks at the moves of one place came to, and how many they were.
 #[derive(Clone, Copy)]
-struct Looked<P> {
-    pick: P,
+struct Looked {
+    entry: Option<Entry>,
     looks: u64,
 }
 
@@ -43,12 +41,12 @@ pub(crate) struct View<'a, 't, A: Arena> {
 }
 
 impl<'a, 't, A: Arena> View<'a, 't, A> {
-    // Looks at each move of the place, and joins what it sees.
-    fn look_round<P: Joining>(&self) -> Looked<P>
-        ensures pick { result.pick ≡ folded P.Joining.neutral P.Joining.joined P.Joining.single 0 (seen_row (A.Arena.game self.now.arena.now).rules self.now.cap self.now.table.now self.now.place) }
+    // Looks at each move of the place, and joins what it sees. The looks are counted where they are made.
+    fn look_round<W: Wish>(&self) -> Looked
+        ensures entry { Picked W.order 0 (seen_row (A.Arena.game self.now.arena.now).rules self.now.cap self.now.table.now self.now.place) result.entry }
         ensures looks { result.looks ≡ degree (A.Arena.game self.now.arena.now).rules self.now.place }
     {
-        let mut pick = P::start();
+        let mut pick = Pick::<W>::EMPTY;
         let mut looks: u64 = 0;
         let count = self.arena.move_count(self.place).unwrap_or(0);
         for position in 0..count {
@@ -56,32 +54,23 @@ impl<'a, 't, A: Arena> View<'a, 't, A> {
                 unreachable()
             };
             let mark = self.table[to].min(self.cap);
-            pick = pick.join(P::count_as(mark, position as u64));
+            pick = pick.join(Pick::count_as(mark, position as u64));
             looks += 1;
         }
-        Looked { pick, looks }
+        Looked {
+            entry: pick.entry,
+            looks,
+        }
     }
 
-    // The pick of the player among the moves of the place.
-    fn pick_move(&self, player: Player) -> Looked<Pick>
-        ensures pick { Picked (order_of player) 0 (seen_row (A.Arena.game self.now.arena.now).rules self.now.cap self.now.table.now self.now.place) result.pick }
+    // The pick of the player among the moves of the place. The player is data of the arena, so one switch to a wish is left.
+    fn pick_move(&self, player: Player) -> Looked
+        ensures entry { Picked (order_of player) 0 (seen_row (A.Arena.game self.now.arena.now).rules self.now.cap self.now.table.now self.now.place) result.entry }
         ensures looks { result.looks ≡ degree (A.Arena.game self.now.arena.now).rules self.now.place }
     {
         match player {
-            Player::Pursuer => {
-                let seen: Looked<PursuerPick> = self.look_round();
-                Looked {
-                    pick: seen.pick.pick,
-                    looks: seen.looks,
-                }
-            }
-            Player::Runner => {
-                let seen: Looked<RunnerPick> = self.look_round();
-                Looked {
-                    pick: seen.pick.pick,
-                    looks: seen.looks,
-                }
-            }
+            Player::Pursuer => self.look_round::<Least>(),
+            Player::Runner => self.look_round::<Greatest>(),
         }
     }
 
@@ -93,15 +82,15 @@ impl<'a, 't, A: Arena> View<'a, 't, A> {
     {
         let player = self.arena.owner(self.place).unwrap_or(Player::Runner);
         let seen = self.pick_move(player);
-        match seen.pick {
-            Pick::Nothing => Scan {
+        match seen.entry {
+            None => Scan {
                 word: NONE,
                 ready: matches!(player, Player::Runner),
                 looks: seen.looks,
             },
-            Pick::At { mark, position } => Scan {
-                word: position as u32,
-                ready: mark < self.cap,
+            Some(entry) => Scan {
+                word: entry.position as u32,
+                ready: entry.mark < self.cap,
                 looks: seen.looks,
             },
         }

@@ -8,7 +8,7 @@ use Rattle.arena.specs.Sound.{PlacesSound}
 use Rattle.theory.proofs.Plays.{not_both}
 use Rattle.theory.proofs.Levels.{level_mono}
 use Rattle.marks.specs.Marks.{blank}
-use Rattle.marks.specs.declared.pick.Order.TheVariants.{Least, Greatest}
+use Rattle.marks.specs.Picks.{Least, Greatest}
 use Rattle.rounds.specs.Words.{FirstPosition, Best, Ready, Rounded, order_of, marks_of, moves_of}
 use Rattle.rounds.proofs.Positions.{first_same}
 use Rattle.solver.specs.Reached.{MarkedAt, AfterRound}

@@ -4,7 +4,5 @@ use Rattle.joining.proofs.row.fold_both.Goals as goal
 
 pub returns : goal.returns
 returns g c =
-    let a = g.A.Joining in
-    let b = g.B.Joining in
-    let both = c.fold_row.ensures ∙ folded_parts a.neutral a.joined a.single b.neutral b.joined b.single c.args.first c.args.row.now in
+    let both = c.fold_row.ensures ∙ folded_parts g.A.Joining.meaning g.B.Joining.meaning c.args.first c.args.row.now in
     record { left = ap (λ p. p.first) both; right = ap (λ p. p.second) both }

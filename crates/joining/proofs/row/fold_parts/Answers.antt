@@ -1,8 +1,10 @@
 use Rattle.joining.proofs.Folds.{total_cut}
 use Rattle.joining.proofs.row.fold_parts.Goals as goal
 
-pub returns : goal.returns
-returns g c =
-    let cuts = total_cut g.met.J.Joining.lawful in
-    let here = cuts c.args.first c.args.front.now c.args.back.now in
-    record { parts = cc; whole = cc; cut = cuts }
+pub returns-clause-whole : goal.returns-clause-whole
+returns-clause-whole g c =
+    let here = total_cut g.met.J.Joining.lawful c.args.first c.args.front.now c.args.back.now in
+    cc
+
+pub returns-clause-cut : goal.returns-clause-cut
+returns-clause-cut g c = total_cut g.met.J.Joining.lawful

@@ -1,4 +1,5 @@
-use Rattle.marks.proofs.Picks.{runner_picks}
+use Rattle.marks.specs.Picks.{Greatest}
+use Rattle.marks.proofs.Picks.{fold_picks}
 use Rattle.marks.proofs.Tallies.{tally_tallies}
 use Rattle.marks.proofs.row.runner_pick_and_tally.Goals as goal
 
@@ -6,6 +7,6 @@ pub returns : goal.returns
 returns c =
     let both = c.fold_both in
     record {
-      picked = runner_picks 0 c.args.row.now both.result.first both.ensures.left;
+      picked = fold_picks Greatest 0 c.args.row.now both.result.first both.ensures.left;
       tallied = tally_tallies 0 c.args.row.now both.result.second both.ensures.right;
     }

@@ -1,8 +1,7 @@
 use Rattle.std.proofs.Common.{ℕ, List, refl, subst, arith}
-use Rattle.marks.specs.Picks.{Picked}
+use Rattle.marks.specs.Picks.{Greatest, Picked}
 use Rattle.marks.specs.Tallies.{Tallied}
 use Rattle.marks.specs.Unique.{TheOne}
-use Rattle.marks.specs.declared.pick.Order.TheVariants.{Greatest}
 use Rattle.marks.proofs.Picks.{picked_index}
 use Rattle.opening.specs.Rows.{row}
 use Rattle.opening.proofs.Parts.{row_within, part_row, row_length}
@@ -19,9 +18,9 @@ returns c =
     let marks : List ℕ = c.args.marks.now in
     let told = c.runner_pick_and_tally-both.ensures in
     let same = part_row n c.args.pursuer marks in
-    let picked = rw c.in-At.is at (subst (λ (l : List ℕ). Picked Greatest 0 l c.runner_pick_and_tally-both.result.first.pick) same told.picked.has) in
+    let picked = rw c.in-Some.is at (subst (λ (l : List ℕ). Picked Greatest 0 l c.runner_pick_and_tally-both.result.first.entry) same told.picked.has) in
     record {
       pursuer = refl;
-      replies = picked_index Greatest (row n marks c.args.pursuer) _ _ (omega (arith, row_length n c.args.pursuer marks c.requires.spot c.requires.long)) picked;
+      replies = picked_index Greatest (row n marks c.args.pursuer) _ (omega (arith, row_length n c.args.pursuer marks c.requires.spot c.requires.long)) picked;
       tallied = subst (λ (l : List ℕ). TheOne (Tallied l) c.runner_pick_and_tally-both.result.second) same told.tallied;
     }

@@ -1,7 +1,7 @@
 use Rattle.std.proofs.Common.{ℕ, List, sym, subst}
 use Rattle.arena.specs.declared.player.Player.{Player}
-use Rattle.marks.specs.Picks.{Picked}
-use Rattle.marks.proofs.Picks.{pursuer_picks, runner_picks}
+use Rattle.marks.specs.Picks.{Least, Greatest, Picked}
+use Rattle.marks.proofs.Picks.{fold_picks}
 use Rattle.rounds.specs.Scans.{seen_row}
 use Rattle.rounds.specs.Words.{order_of}
 use Rattle.rounds.proofs.scan.View.pick_move.Goals as goal
@@ -11,7 +11,7 @@ returns-in-Pursuer g c =
     let row : List ℕ = seen_row (g.A.Arena.game c.args.self.now.arena.now).rules c.args.self.now.cap c.args.self.now.table.now c.args.self.now.place in
     let seen = c.look_round-seen in
     record {
-      pick = subst (λ (s : Player). Picked (order_of s) 0 row seen.result.pick.pick) (sym c.in-Pursuer.is) (pursuer_picks 0 row seen.result.pick seen.ensures.pick).has;
+      pick = subst (λ (s : Player). Picked (order_of s) 0 row seen.result.pick.entry) (sym c.in-Pursuer.is) (fold_picks Least 0 row seen.result.pick seen.ensures.pick).has;
       looks = seen.ensures.looks;
     }
 
@@ -20,6 +20,6 @@ returns-in-Runner g c =
     let row : List ℕ = seen_row (g.A.Arena.game c.args.self.now.arena.now).rules c.args.self.now.cap c.args.self.now.table.now c.args.self.now.place in
     let seen = c.look_round-seen-in-Runner in
     record {
-      pick = subst (λ (s : Player). Picked (order_of s) 0 row seen.result.pick.pick) (sym c.in-Runner.is) (runner_picks 0 row seen.result.pick seen.ensures.pick).has;
+      pick = subst (λ (s : Player). Picked (order_of s) 0 row seen.result.pick.entry) (sym c.in-Runner.is) (fold_picks Greatest 0 row seen.result.pick seen.ensures.pick).has;
       looks = seen.ensures.looks;
     }

@@ -1,0 +1,40 @@
+use Rattle.std.proofs.Common.{◌≡◌, ℕ, ◌+◌, ◌%◌, ◌^◌, min, List, get_or, sym, ap, ◌∙◌, arith, take_all}
+use Rattle.arena.specs.Game.{Game, degree}
+use Rattle.arena.proofs.Asked.{target_some, count_known}
+use Rattle.joining.specs.Rows.{folded}
+use Rattle.joining.proofs.Folds.{total_next}
+use Rattle.rounds.specs.Scans.{seen_row}
+use Rattle.rounds.specs.Words.{marks_of}
+use Rattle.rounds.proofs.Scanned.{seen_length, seen_at}
+use Rattle.rounds.proofs.scan.look_round.Goals as goal
+
+pub loop-position-preserved : goal.loop-position-preserved
+loop-position-preserved g c =
+    let G : Game = g.A.Arena.game c.args.arena.now in
+    let W : List ℕ = c.args.table.now in
+    let p : ℕ = c.args.place in
+    let i : ℕ = c.loop-position.position in
+    let there = target_some G p i _ c.in-Some.ensures in
+    let row : List ℕ = seen_row G.rules c.args.cap W p in
+    let mark : c.min-mark.result ≡ get_or row i 0 =
+    c.min-mark.ensures ∙ ap (λ (q : ℕ). min (marks_of W q) c.args.cap) there.1 ∙ sym (seen_at G.rules c.args.cap W p i there.0) in
+    let here : i ≡ (0 + i) % 2 ^ 64 = omega arith in
+    let next = total_next g.met.P.Joining.lawful 0 row i 0 (omega (arith, there.0, seen_length G.rules c.args.cap W p)) in
+    let one : c.count_as.result ≡ g.P.Joining.meaning.single (get_or row i 0) ((0 + i) % 2 ^ 64) =
+    c.count_as.ensures ∙ ap (λ (m : ℕ). g.P.Joining.meaning.single m i) mark ∙ ap (g.P.Joining.meaning.single (get_or row i 0)) here in
+    let joined = rw (c.loop-position.invariant.1, one) at c.join-pick.ensures in
+    (omega arith, joined ∙ next)
+
+pub returns : goal.returns
+returns g c =
+    let G : Game = g.A.Arena.game c.args.arena.now in
+    let W : List ℕ = c.args.table.now in
+    let p : ℕ = c.args.place in
+    let row : List ℕ = seen_row G.rules c.args.cap W p in
+    let count : c.unwrap_or-count.result ≡ degree G.rules p =
+    c.unwrap_or-count.ensures ∙ rw c.move_count.ensures (count_known G p 0 c.requires.place) in
+    let all = take_all c.loop-position.position row (omega (arith, seen_length G.rules c.args.cap W p)) in
+    record {
+      pick = c.loop-position.invariant.1 ∙ ap (folded g.P.Joining.meaning 0) all;
+      looks = omega arith;
+    }
