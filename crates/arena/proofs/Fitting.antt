@@ -1,6 +1,8 @@
 -- The causes why an arena and a table do not fit exclude each other, and that they fit.
-use Rattle.std.proofs.Common.{◌≡◌, ℕ, ◌<◌, refl, ap, arith}
+use Rattle.std.proofs.Common.{◌≡◌, ℕ, refl, ap}
+use Rattle.arena.proofs.First.{first_once}
 use Rattle.arena.specs.Game.{Game}
+use Rattle.arena.specs.Sound.{SoundAt}
 use Rattle.arena.specs.Unfit.{Fits, Cause}
 use Rattle.arena.specs.declared.unfit.Unfit.{Unfit}
 use Rattle.arena.specs.declared.unfit.Unfit.TheVariants.{Size, Words, Unsound}
@@ -21,8 +23,4 @@ once g words Words Words h k = refl
 once g words Words (Unsound q) h k = absurd (h.1 k.1)
 once g words (Unsound p) Size h k = absurd (k h.0)
 once g words (Unsound p) Words h k = absurd (k.1 h.1)
-once g words (Unsound p) (Unsound q) h k =
-    let a : p < q → ⊥ = λ l. h.2.1 (k.2.2 p l) in
-    let b : q < p → ⊥ = λ l. k.2.1 (h.2.2 q l) in
-    let e : p ≡ q = grind arith in
-    ap Unsound e
+once g words (Unsound p) (Unsound q) h k = ap Unsound (first_once (SoundAt g) p q h.2.1 h.2.2 k.2.1 k.2.2)

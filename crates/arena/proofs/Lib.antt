@@ -1,3 +1,4 @@
 pub mod Asked
+pub mod First
 pub mod Parting
 pub mod Fitting

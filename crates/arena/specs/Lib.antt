@@ -1,3 +1,5 @@
+pub mod Bytes
+pub mod Causes
 pub mod Game
 pub mod Plays
 pub mod Claims
@@ -8,5 +10,6 @@ pub mod Folds
 pub mod Questions
 pub mod Sound
 pub mod Unfit
+pub mod Kind
 pub mod Listed
 pub mod Tables

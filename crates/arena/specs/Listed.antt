@@ -1,33 +1,30 @@
 -- Three rows that list a game: a kind for each place, where each place's moves start, and the moves.
-use Rattle.std.specs.Prelude.{◌≡◌, ℕ, ◌+◌, ◌-◌, ◌%◌, ◌<◌, ◌≤◌, cond, List, [], ◌∷◌, length, take, drop, ◌==◌, nat_le, slice_index}
+use Rattle.std.specs.Prelude.{◌≡◌, ℕ, ◌+◌, ◌-◌, ◌<◌, ◌≤◌, List, [], ◌∷◌, length, take, drop, slice_index}
+use Rattle.arena.specs.Bytes.{AllUpTo, FirstAbove}
+use Rattle.arena.specs.Causes.{CausesExclude}
 use Rattle.arena.specs.Game.{Game}
-use Rattle.arena.specs.declared.player.Player.{Player}
-use Rattle.arena.specs.declared.player.Player.TheVariants.{Runner, Pursuer}
+use Rattle.arena.specs.Kind.{is_capture_kind, owner_of}
 use Rattle.arena.specs.declared.listing_refusal.ListingRefusal.{ListingRefusal}
 use Rattle.arena.specs.declared.listing_refusal.ListingRefusal.TheVariants.{Kind, Starts}
-
--- the player of a kind: 0 and 2 the runner, 1 and 3 the pursuer
-abbrev pub owner_of : ℕ → Player
-owner_of kind = cond (kind % 2 == 1) Pursuer Runner
 
 -- the moves of the place p: from its start up to before the next start
 abbrev pub moves_of : List ℕ → List ℕ → ℕ → List ℕ
 moves_of starts moves p = take (slice_index starts (p + 1) - slice_index starts p) (drop (slice_index starts p) moves)
 
--- the game that the rows list; kinds 2 and 3 are capture places
+-- the game that the rows list
 abbrev pub listed : List ℕ → List ℕ → List ℕ → Game
 listed kinds starts moves = record {
   size = length kinds;
   rules = record {
     owner = λ p. owner_of (slice_index kinds p);
-    capture = λ p. nat_le 2 (slice_index kinds p);
+    capture = λ p. is_capture_kind (slice_index kinds p);
     moves = moves_of starts moves;
   };
 }
 
 -- each kind is at most 3
 abbrev pub Kinds : List ℕ → Type 0
-Kinds kinds = (k : ℕ) → k < length kinds → slice_index kinds k ≤ 3
+Kinds kinds = AllUpTo 3 kinds
 
 -- a start for each of n places and one more, from 0, not falling, up to the number m of moves
 abbrev pub Parts : ℕ → ℕ → List ℕ → Type 0
@@ -39,7 +36,7 @@ LawfulRows kinds starts moves = Kinds kinds × Parts (length kinds) (length move
 
 -- the place p is the first whose kind is above 3
 abbrev pub FirstKind : List ℕ → ℕ → Type 0
-FirstKind kinds p = (p < length kinds) × (3 < slice_index kinds p) × ((k : ℕ) → k < p → slice_index kinds k ≤ 3)
+FirstKind kinds p = FirstAbove 3 kinds p
 
 -- the number of each refusal, and its values
 abbrev pub told : ListingRefusal → ℕ × List ℕ
@@ -53,6 +50,4 @@ Cause kinds starts moves Starts = Kinds kinds × (Parts (length kinds) (length m
 
 -- rows that are refused are not lawful, and only one cause fits them
 abbrev pub Exact : Type 0
-Exact =
-    ((kinds starts moves : List ℕ) (e : ListingRefusal) → Cause kinds starts moves e → LawfulRows kinds starts moves → ⊥)
-    × ((kinds starts moves : List ℕ) (d e : ListingRefusal) → Cause kinds starts moves d → Cause kinds starts moves e → d ≡ e)
+Exact = (kinds starts moves : List ℕ) → CausesExclude (LawfulRows kinds starts moves) (Cause kinds starts moves)

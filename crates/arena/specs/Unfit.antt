@@ -1,5 +1,6 @@
 -- When an arena and a table of so many words fit, and why they do not.
 use Rattle.std.specs.Prelude.{◌≡◌, ℕ, ◌*◌, List, [], ◌∷◌, Some, ◌≢◌}
+use Rattle.arena.specs.Causes.{CausesExclude}
 use Rattle.arena.specs.Game.{Game}
 use Rattle.arena.specs.Sound.{Sized, PlacesSound, FirstUnsound}
 use Rattle.arena.specs.declared.unfit.Unfit.{Unfit}
@@ -25,6 +26,4 @@ Cause g words (Unsound p) = Sized g × (words ≡ 2 * g.size) × FirstUnsound g 
 
 -- what is refused does not fit, and only one cause is there
 abbrev pub Exact : Type 0
-Exact =
-    ((g : Game) (words : ℕ) (e : Unfit) → Cause g words e → Fits g words → ⊥)
-    × ((g : Game) (words : ℕ) (d e : Unfit) → Cause g words d → Cause g words e → d ≡ e)
+Exact = (g : Game) (words : ℕ) → CausesExclude (Fits g words) (Cause g words)

@@ -37,39 +37,23 @@ pub trait Arena {
         ensures { Decides result ((place < (game self.now).size) × SoundAt (game self.now) place) }
     {
         let size = self.size();
-        let Some(count) = self.move_count(place) else {
-            return false;
-        };
-        if count > MOST_MOVES {
-            return false;
-        }
-        if count == 0 {
-            return match self.is_capture(place) {
-                Some(capture) => capture,
-                None => false,
-            };
-        }
-        for position in 0..count {
-            let Some(to) = self.move_at(place, position) else {
-                return false;
-            };
-            if to >= size {
-                return false;
+        match self.move_count(place) {
+            Some(0) => self.is_capture(place) == Some(true),
+            Some(count) => {
+                count <= MOST_MOVES
+                    && (0..count).all(|position| self
+                        .move_at(place, position)
+                        .is_some_and(|to| to < size))
             }
+            None => false,
         }
-        true
     }
 
     // The first place that is not sound, by asking each place.
     fn scan_unsound(&self) -> Option<usize>
         ensures { FirstUnsound (game self.now) result }
     {
-        for place in 0..self.size() {
-            if !self.is_sound_at(place) {
-                return Some(place);
-            }
-        }
-        None
+        (0..self.size()).find(|place| !self.is_sound_at(*place))
     }
 
     // The same. An arena that is sound by its own rules answers without a scan.

@@ -2,7 +2,9 @@
 #![tactic(auto)]
 
 pub mod admit;
+pub mod bytes;
 pub mod interface;
+pub mod kind;
 pub mod listing;
 pub mod listing_refusal;
 pub mod player;
@@ -11,6 +13,8 @@ mod tests;
 pub mod unfit;
 
 pub use admit::admitted;
+pub use bytes::first_above;
 pub use interface::Arena;
+pub use kind::Kind;
 pub use listing::Listing;
 pub use player::Player;

@@ -1,7 +1,10 @@
 ghost use Rattle.std.specs.Prelude.{◌≡◌, ℕ, ◌+◌, ◌<◌, ◌≤◌, length, Decides, MatchOption, MatchResult, slice_index};
-ghost use Rattle.arena.specs.Listed.{Cause, Exact, FirstKind, Kinds, LawfulRows, Parts, listed, moves_of, owner_of};
+ghost use Rattle.arena.specs.Kind.{is_capture_kind, owner_of};
+ghost use Rattle.arena.specs.Listed.{Cause, Exact, LawfulRows, Parts, listed, moves_of};
 
+use crate::bytes::first_above;
 use crate::interface::Arena;
+use crate::kind::{Kind, MOST_KIND};
 use crate::listing_refusal::ListingRefusal;
 use crate::player::Player;
 
@@ -12,57 +15,20 @@ pub struct Listing<'k, 's, 'm> {
     kinds: &'k [u8],
     starts: &'s [u32],
     moves: &'m [u32],
-}
-
-// The first place whose kind is above 3.
-fn first_large(kinds: &[u8]) -> Option<usize>
-    ensures { MatchOption result (Kinds kinds.now) (FirstKind kinds.now) }
-{
-    for (place, kind) in kinds.iter().enumerate() {
-        if *kind > 3 {
-            return Some(place);
-        }
-    }
-    None
+    ghost lawful: { LawfulRows kinds.now starts.now moves.now },
 }
 
 // Whether the starts part so many moves among so many places.
 fn is_parting(places: usize, moves: usize, starts: &[u32]) -> bool
     ensures { Decides result (Parts places moves starts.now) }
 {
-    if starts.len() == 0 || starts.len() - 1 != places {
+    let (Some(first), Some(end)) = (starts.first(), starts.last()) else {
+        return false;
+    };
+    if starts.len() - 1 != places || *first != 0 || *end as usize != moves {
         return false;
     }
-    if starts[0] != 0 {
-        return false;
-    }
-    for i in 0..places {
-        if starts[i] > starts[i + 1] {
-            return false;
-        }
-    }
-    starts[places] as usize == moves
-}
-
-// The word at an index, 0 past the end.
-fn word_at(words: &[u32], index: usize) -> usize
-    ensures { result ≡ slice_index words.now index }
-{
-    if index < words.len() {
-        words[index] as usize
-    } else {
-        0
-    }
-}
-
-fn owner_of_kind(kind: u8) -> Player
-    ensures { result ≡ owner_of kind }
-{
-    if kind % 2 == 1 {
-        Player::Pursuer
-    } else {
-        Player::Runner
-    }
+    starts.is_sorted()
 }
 
 impl<'k, 's, 'm> Listing<'k, 's, 'm> {
@@ -74,7 +40,7 @@ impl<'k, 's, 'm> Listing<'k, 's, 'm> {
     ) -> Result<Listing<'k, 's, 'm>, ListingRefusal>
         ensures { MatchResult result (λ l. (l.kinds.now ≡ kinds.now) × (l.starts.now ≡ starts.now) × (l.moves.now ≡ moves.now) × LawfulRows kinds.now starts.now moves.now) (Cause kinds.now starts.now moves.now) }
     {
-        if let Some(place) = first_large(kinds) {
+        if let Some(place) = first_above(kinds, MOST_KIND) {
             return Err(ListingRefusal::Kind { place });
         }
         if !is_parting(kinds.len(), moves.len(), starts) {
@@ -87,18 +53,21 @@ impl<'k, 's, 'm> Listing<'k, 's, 'm> {
         })
     }
 
-    // The moves of a place.
-    fn moves_of(&self, place: usize) -> &[u32]
-        requires { place < length self.now.kinds.now }
-        ensures { result.now ≡ moves_of self.now.starts.now self.now.moves.now place }
+    // The kind of a place, if there is one.
+    fn kind_of(&self, place: usize) -> Option<Kind>
+        ensures { MatchOption result (length self.now.kinds.now ≤ place) (λ kind. (place < length self.now.kinds.now) × (kind.owner ≡ owner_of (slice_index self.now.kinds.now place)) × (kind.capture ≡ is_capture_kind (slice_index self.now.kinds.now place))) }
     {
-        let from = word_at(self.starts, place);
-        let to = word_at(self.starts, place + 1).min(self.moves.len());
-        if from < to {
-            &self.moves[from..to]
-        } else {
-            &[]
-        }
+        Kind::try_from(*self.kinds.get(place)?).ok()
+    }
+
+    // The moves of a place, if there is one.
+    fn moves_of(&self, place: usize) -> Option<&[u32]>
+        ensures { MatchOption result (length self.now.kinds.now ≤ place) (λ moves. (place < length self.now.kinds.now) × (moves.now ≡ moves_of self.now.starts.now self.now.moves.now place)) }
+    {
+        let [from, to, ..] = self.starts.get(place..)? else {
+            return None;
+        };
+        Some(&self.moves[*from as usize..*to as usize])
     }
 }
 
@@ -110,36 +79,19 @@ impl<'k, 's, 'm> Arena for Listing<'k, 's, 'm> {
     }
 
     fn owner(&self, place: usize) -> Option<Player> {
-        if place >= self.kinds.len() {
-            return None;
-        }
-        Some(owner_of_kind(self.kinds[place]))
+        Some(self.kind_of(place)?.owner)
     }
 
     fn is_capture(&self, place: usize) -> Option<bool> {
-        if place >= self.kinds.len() {
-            return None;
-        }
-        Some(self.kinds[place] >= 2)
+        Some(self.kind_of(place)?.capture)
     }
 
     fn move_count(&self, place: usize) -> Option<usize> {
-        if place >= self.kinds.len() {
-            return None;
-        }
-        Some(self.moves_of(place).len())
+        Some(self.moves_of(place)?.len())
     }
 
     fn move_at(&self, place: usize, position: usize) -> Option<usize> {
-        if place >= self.kinds.len() {
-            return None;
-        }
-        let moves = self.moves_of(place);
-        if position < moves.len() {
-            Some(moves[position] as usize)
-        } else {
-            None
-        }
+        Some(*self.moves_of(place)?.get(position)? as usize)
     }
 }
 

@@ -1,5 +1,6 @@
 use crate::admit::admitted;
 use crate::interface::Arena;
+use crate::kind::{Kind, UnknownKind};
 use crate::listing::Listing;
 use crate::listing_refusal::ListingRefusal;
 use crate::player::Player;
@@ -9,18 +10,13 @@ use std::test::Fail;
 
 // The refusal of three rows, if they are refused.
 fn refusal(kinds: &[u8], starts: &[u32], moves: &[u32]) -> Option<ListingRefusal> {
-    match Listing::new(kinds, starts, moves) {
-        Ok(_) => None,
-        Err(why) => Some(why),
-    }
+    Listing::new(kinds, starts, moves).err()
 }
 
 // What is told of three rows with so many words.
 fn fit(kinds: &[u8], starts: &[u32], moves: &[u32], words: usize) -> Option<Result<(), Unfit>> {
-    match Listing::new(kinds, starts, moves) {
-        Ok(listing) => Some(admitted(&listing, words)),
-        Err(_) => None,
-    }
+    let listing = Listing::new(kinds, starts, moves).ok()?;
+    Some(admitted(&listing, words))
 }
 
 // One runner's place that leads so many times to itself.
@@ -31,10 +27,7 @@ fn loops(heap: Global, count: u32) -> Result<Option<Result<(), Unfit>>, Fail> {
 
 #[test]
 fn chain_is_asked(rt: HostRuntime) -> Result<(), Fail> {
-    let Ok(chain) = Listing::new(&[3, 1, 1], &[0, 0, 1, 2], &[0, 1]) else {
-        assert!(rt; false);
-        return Ok(());
-    };
+    let chain = Listing::new(&[3, 1, 1], &[0, 0, 1, 2], &[0, 1])?;
     assert_eq!(rt; chain.size(), 3);
     assert_eq!(rt; chain.owner(2), Some(Player::Pursuer));
     assert_eq!(rt; chain.owner(3), None);
@@ -48,6 +41,16 @@ fn chain_is_asked(rt: HostRuntime) -> Result<(), Fail> {
     assert_eq!(rt; chain.move_at(3, 0), None);
     assert_eq!(rt; chain.first_unsound(), None);
     Ok(())
+}
+
+#[test]
+fn kinds_are_named(rt: HostRuntime) {
+    let kind = |owner, capture| Ok(Kind { owner, capture });
+    assert_eq!(rt; Kind::try_from(0), kind(Player::Runner, false));
+    assert_eq!(rt; Kind::try_from(1), kind(Player::Pursuer, false));
+    assert_eq!(rt; Kind::try_from(2), kind(Player::Runner, true));
+    assert_eq!(rt; Kind::try_from(3), kind(Player::Pursuer, true));
+    assert_eq!(rt; Kind::try_from(4), Err(UnknownKind(4)));
 }
 
 #[test]

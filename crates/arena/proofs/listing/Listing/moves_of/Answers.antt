@@ -1,12 +1,17 @@
-use Rattle.arena.proofs.Parting.{moves_between, no_moves_between}
+use Rattle.std.proofs.Common.{rules}
+use Rattle.arena.proofs.Parting.{next_starts}
 use Rattle.arena.proofs.listing.Listing.moves_of.Goals as goal
 
-pub returns-then-from-to : goal.returns-then-from-to
-returns-then-from-to c =
-    let l = c.args.self.now in
-    moves_between l.starts.now l.moves.now c.args.place _ _ _ c.word_at-from.ensures c.word_at.ensures c.min-to.ensures
+pub slice_bounds-result-end : goal.slice_bounds-result-end
+slice_bounds-result-end c =
+    let got = c.in_ok-get.ensures.lookup.0 in
+    let next = next_starts _ _ _ _ c.args.place got.2 got.3 c.in-len2-up.len_at_least c.args.self.now.lawful.1 in
+    search rules
 
-pub returns-else-from-to : goal.returns-else-from-to
-returns-else-from-to c =
-    let l = c.args.self.now in
-    no_moves_between l.starts.now l.moves.now c.args.place _ _ _ c.word_at-from.ensures c.word_at.ensures c.min-to.ensures c.if-from-to.false
+pub returns : goal.returns
+returns c =
+    let got = c.in_ok-get.ensures.lookup.0 in
+    let next = next_starts _ _ _ _ c.args.place got.2 got.3 c.in-len2-up.len_at_least c.args.self.now.lawful.1 in
+    let from = next.1 in
+    let to = next.2 in
+    (next.0, cc)
