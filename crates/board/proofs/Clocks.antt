@@ -1,10 +1,12 @@
 -- Least common multiples.
-use Rattle.std.proofs.Common.{◌≡◌, ℕ, zero, suc, ◌+◌, ◌*◌, ◌/◌, ◌%◌, ◌<◌, ◌≤◌, Bool, true, ◌&&◌, eqb, List, [], ◌∷◌, ◌++◌, length, get_or, take, sym, refl, ap, ◌∙◌, subst, inl, inr, mod-lt, mul_comm, eq-zero-or-pos, eq-or-lt_of_le, mul-zero, arith}
+use Rattle.std.proofs.Common.{◌≡◌, ℕ, zero, suc, ◌+◌, ◌*◌, ◌/◌, ◌%◌, ◌<◌, ◌≤◌, Bool, true, ◌&&◌, eqb, List, [], ◌∷◌, ◌++◌, length, get_or, take, MatchOption, Option, None, Some, sym, refl, ap, ◌∙◌, subst, inl, inr, mod-lt, mul_comm, eq-zero-or-pos, mul-zero, arith}
 use native.Mathlib.Nat.{mul-mod_right, mul-mod_left, mod-mod_of_dvd, dvd_of_mod-eq-zero, mod-eq-zero_of_dvd, dvd-mul_right, dvd_trans, le_of_dvd, dvd_antisymm, lt_of_mul-lt-mul_left}
 use Rattle.std.proofs.lemmas.List.{take_more}
+use Rattle.std.proofs.lemmas.List.Recursion.{and_push}
 use Rattle.std.proofs.lemmas.Nat.{div-add-mod', mul-le}
 use Rattle.std.proofs.lemmas.Bool.{eqb-true, eq-eqb, and_parts, and_from}
 use Rattle.std.proofs.lemmas.Bool.Decides.{Decides-below_and, Decides-eqb}
+use Rattle.std.specs.Option.{unwrap_or}
 use Rattle.board.specs.declared.gate.Gate.{Gate}
 use Rattle.board.specs.Clock.{LeastCommon, divided, Period}
 
@@ -35,25 +37,12 @@ module _ (a b k : ℕ) (a-pos : 0 < a) (k-pos : 0 < k) (none : (j : ℕ) → 0 <
   pub first_common : LeastCommon a b (a * k)
   first_common = record { positive = product_pos; first = mul-mod_right a k; second = here; least = divides }
 
--- the last multiple to try is b times a
-pub not_last : (a b k : ℕ) → k ≤ b → (a * k % b ≡ 0 → ⊥) → k < b
-not_last a b k h no_more = elim (eq-or-lt_of_le h) [ inl e ↦ absurd (no_more (ap (λ x. a * x % b) e ∙ mul-mod_left a b)) | inr l ↦ l ]
-
--- one more number is tried
-pub tried_more : (a b k : ℕ) → (a * k % b ≡ 0 → ⊥) → ((j : ℕ) → 0 < j → j < k → a * j % b ≡ 0 → ⊥) → (j : ℕ) → 0 < j → j < k + 1 → a * j % b ≡ 0 → ⊥
-tried_more a b k here below j p l e =
-    let le : j ≤ k = omega arith in
-    elim (eq-or-lt_of_le le) [ inl i ↦ here (ap (λ x. a * x % b) (sym i) ∙ e) | inr m ↦ below j p m e ]
-
--- one pattern more
-divided_push : (m : ℕ) (gs : List Gate) (g : Gate) → divided m (gs ++ (g ∷ [])) ≡ (divided m gs && eqb (m % g.pattern.steps) 0)
-divided_push m [] g = let b = eqb (m % g.pattern.steps) 0 in grind arith
-divided_push m (x ∷ gs) g =
-    let a = eqb (m % x.pattern.steps) 0 in
-    let b = divided m gs in
-    let d = eqb (m % g.pattern.steps) 0 in
-    let e : a && (b && d) ≡ (a && b) && d = grind arith in
-    ap (λ y. a && y) (divided_push m gs g) ∙ e
+-- the factor that a search from s on finds, or else b
+pub found_common : (a b s : ℕ) → 0 < a → 0 < b → s ≤ 1 → 0 < s → (r : Option ℕ)
+    → MatchOption r ((j : ℕ) → s ≤ j → j < b → a * j % b ≡ 0 → ⊥) (λ k. (s ≤ k) × (k < b) × (a * k % b ≡ 0) × ((j : ℕ) → s ≤ j → j < k → a * j % b ≡ 0 → ⊥))
+    → LeastCommon a b (a * unwrap_or r b) × (unwrap_or r b ≤ b)
+found_common a b s p q one some None none = (first_common a b b p q (λ j i. none j (omega arith)) (mul-mod_left a b), omega arith)
+found_common a b s p q one some (Some k) f = (first_common a b k p (omega (arith, f.0)) (λ j i. f.3 j (omega arith)) f.2, omega (arith, f.1))
 
 -- what the lengths divide, they divide in its multiples
 divided_up : (T l : ℕ) (xs : List Gate) → divided T xs ≡ true → l % T ≡ 0 → divided l xs ≡ true
@@ -68,9 +57,9 @@ period_push : (gs : List Gate) (g : Gate) (T l : ℕ) → Period gs T → LeastC
 period_push gs g T l p c =
     let s = g.pattern.steps in (
       c.positive,
-      divided_push l gs g ∙ and_from (divided l gs) (eqb (l % s) 0) (divided_up T l gs p.1 c.first) (eq-eqb (l % s) 0 c.second),
+      and_push (divided l) (λ x. eqb (l % x.pattern.steps) 0) refl (λ _ _. refl) gs g ∙ and_from (divided l gs) (eqb (l % s) 0) (divided_up T l gs p.1 c.first) (eq-eqb (l % s) 0 c.second),
       λ m d.
-          let q = and_parts (divided m gs) (eqb (m % s) 0) (sym (divided_push m gs g) ∙ d) in
+          let q = and_parts (divided m gs) (eqb (m % s) 0) (sym (and_push (divided m) (λ x. eqb (m % x.pattern.steps) 0) refl (λ _ _. refl) gs g) ∙ d) in
           c.least m (p.2 m q.0) (eqb-true (m % s) 0 q.1),
     )
 

@@ -1,11 +1,12 @@
 -- What a board has.
-use Rattle.std.specs.Prelude.{ℕ, List, vec_items}
+use Rattle.std.specs.Prelude.{ℕ, List}
 use Rattle.board.specs.declared.gate.Gate.{Gate}
+use Rattle.board.specs.Drafts.{draft_gates, draft_spots}
 use Rattle.board.specs.declared.board.Board.{Board}
 
 -- how many spots it has
 abbrev pub spots_of : Board → ℕ
-spots_of b = b.spots
+spots_of b = draft_spots b.draft
 
 -- the length of its clock
 abbrev pub period_of : Board → ℕ
@@ -13,4 +14,4 @@ period_of b = b.period
 
 -- its gates, in listed order
 abbrev pub gates_of : Board → List Gate
-gates_of b = vec_items b.gates
+gates_of b = draft_gates b.draft

@@ -1,17 +1,17 @@
 -- When a gate may be added to those of a board in the making, and why not.
-use Rattle.std.specs.Prelude.{◌≡◌, ℕ, ◌<◌, ◌≤◌, true, false, List, [], length, ◌≢◌}
+use Rattle.std.specs.Prelude.{◌≡◌, ℕ, ◌<◌, ◌≤◌, true, false, List, [], length, Option, Some, None, ◌≢◌}
 use Rattle.board.specs.declared.gate.Gate.{Gate}
 use Rattle.board.specs.Gates.{repeats}
 use Rattle.board.specs.declared.draft.refusal.GateRefusal.{GateRefusal}
 use Rattle.board.specs.declared.draft.refusal.GateRefusal.TheVariants.{OffBoard, EqualEnds, RepeatedPair, TooMany, NoMemory}
 
 -- the number of each refusal, and its values; want of memory has no number
-abbrev pub told : GateRefusal → ℕ × List ℕ
-told OffBoard = (7, [])
-told EqualEnds = (8, [])
-told RepeatedPair = (8, [])
-told TooMany = (9, [])
-told NoMemory = (0, [])
+abbrev pub told : GateRefusal → Option (ℕ × List ℕ)
+told OffBoard = Some (7, [])
+told EqualEnds = Some (8, [])
+told RepeatedPair = Some (8, [])
+told TooMany = Some (9, [])
+told NoMemory = None
 
 -- both ends are below n
 abbrev pub EndsBelow : ℕ → Gate → Type 0

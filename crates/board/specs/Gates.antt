@@ -1,5 +1,6 @@
 -- Gates between spots: when one is open, and which of them a board may have.
-use Rattle.std.specs.Prelude.{◌≡◌, ℕ, ◌*◌, ◌<◌, ◌≤◌, Bool, true, false, not, ◌&&◌, ◌||◌, List, [], ◌∷◌, length, ◌==◌, nat_lt}
+use Rattle.std.specs.Prelude.{◌≡◌, ℕ, ◌*◌, ◌<◌, ◌≤◌, Bool, true, not, ◌&&◌, ◌||◌, List, [], ◌∷◌, length, ◌==◌, nat_lt}
+use Rattle.std.specs.List.{list_any}
 use Rattle.board.specs.declared.gate.Gate.{Gate}
 use Rattle.board.specs.Patterns.{opens}
 
@@ -17,8 +18,7 @@ same_pair g h = (g.from == h.from && g.to == h.to) || (g.from == h.to && g.to ==
 
 -- whether some gate of a list joins the same pair as g
 abbrev pub repeats : Gate → List Gate → Bool
-repeats g [] = false
-repeats g (h ∷ hs) = same_pair g h || repeats g hs
+repeats g gates = list_any (same_pair g) gates
 
 -- whether each gate joins two spots below n, not the same
 abbrev pub all_join : ℕ → List Gate → Bool

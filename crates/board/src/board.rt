@@ -1,52 +1,48 @@
 ghost use Rattle.std.specs.Prelude.{◌≡◌, ◌≤◌, MatchResult};
 ghost use Rattle.board.specs.Clock.{Period};
-ghost use Rattle.board.specs.Gates.{LawfulGates, LawfulSpots, places};
+ghost use Rattle.board.specs.Drafts.{draft_gates, draft_spots};
+ghost use Rattle.board.specs.Gates.{places};
 ghost use Rattle.board.specs.SizeRefused.{Cause};
 
 use crate::board::refusal::SizeRefusal;
 use crate::clock::period_of;
+use crate::draft::Draft;
 use crate::gate::Gate;
 
 pub mod refusal;
 
 const MOST_PLACES: u64 = 1048576;
 
-// Spots, the gates between them, and the clock that the gates keep.
+// A draft that is closed: its spots, the gates between them, and the clock that the gates keep.
 #[derive(Drop)]
 pub struct Board {
-    spots: u8,
+    draft: Draft,
     period: u32,
-    gates: Vec<Gate>,
-    ghost sized: { LawfulSpots spots },
-    ghost lawful: { LawfulGates spots gates.items },
-    ghost clock: { Period gates.items period },
-    ghost small: { places spots period ≤ 1048576 },
+    ghost clock: { Period (draft_gates draft) period },
+    ghost small: { places (draft_spots draft) period ≤ 1048576 },
 }
 
 impl Board {
-    // The board with these gates, or why there is none.
-    pub(crate) fn with(spots: u8, gates: Vec<Gate>) -> Result<Board, SizeRefusal>
-        requires lawful_spots { LawfulSpots spots }
-        requires lawful_gates { LawfulGates spots gates.items }
-        ensures { MatchResult result (λ b. (b.spots ≡ spots) × (b.gates.items ≡ gates.items)) (Cause spots gates.items) }
+    // The board of a draft, or why there is none.
+    pub(crate) fn with(draft: Draft) -> Result<Board, SizeRefusal>
+        ensures { MatchResult result (λ b. b.draft ≡ draft) (Cause (draft_spots draft) (draft_gates draft)) }
     {
-        let n = spots as u64;
-        let period = period_of(gates.as_slice());
+        let n = u64::from(draft.spots());
+        let period = period_of(draft.gates());
         if period * 2 * n * n > MOST_PLACES {
             return Err(SizeRefusal::TooLarge);
         }
         Ok(Board {
-            spots,
+            draft,
             period: period as u32,
-            gates,
         })
     }
 
     // How many spots there are.
     pub fn spots(&self) -> u8
-        ensures { result ≡ self.now.spots }
+        ensures { result ≡ draft_spots self.now.draft }
     {
-        self.spots
+        self.draft.spots()
     }
 
     // How many steps the clock has.
@@ -58,17 +54,17 @@ impl Board {
 
     // The gates, in listed order.
     pub fn gates(&self) -> &[Gate]
-        ensures { result.now ≡ self.now.gates.items }
+        ensures { result.now ≡ draft_gates self.now.draft }
     {
-        self.gates.as_slice()
+        self.draft.gates()
     }
 
     // How many places there are.
     pub fn places(&self) -> u32
-        ensures { result ≡ places self.now.spots self.now.period }
+        ensures { result ≡ places (draft_spots self.now.draft) self.now.period }
     {
         let steps = self.period;
-        let n = self.spots as u32;
+        let n = u32::from(self.draft.spots());
         steps * 2 * n * n
     }
 }

@@ -11,10 +11,8 @@ fn least_common(a: u64, b: u8) -> u64
     requires b_bound { b ≤ 32 }
     ensures { LeastCommon a b result }
 {
-    let mut k = 1;
-    while a * k % b as u64 != 0 {
-        k += 1;
-    }
+    let b = u64::from(b);
+    let k = (1..b).find(|k| a * *k % b == 0).unwrap_or(b);
     a * k
 }
 

@@ -20,12 +20,7 @@ fn is_same_pair(one: &Gate, two: &Gate) -> bool
 fn is_repeated(gate: &Gate, others: &[Gate]) -> bool
     ensures { result ≡ repeats gate.now others.now }
 {
-    for other in others {
-        if is_same_pair(gate, other) {
-            return true;
-        }
-    }
-    false
+    others.iter().any(|other| is_same_pair(gate, other))
 }
 
 impl Draft {
@@ -46,9 +41,7 @@ impl Draft {
         if self.gates.len() >= MOST_GATES {
             return Err(GateRefusal::TooMany);
         }
-        match self.gates.push(gate) {
-            Ok(()) => Ok(()),
-            Err(_) => Err(GateRefusal::NoMemory),
-        }
+        self.gates.push(gate)?;
+        Ok(())
     }
 }

@@ -12,7 +12,6 @@ impl Draft {
     pub fn close(self) -> Result<Board, SizeRefusal>
         ensures { MatchResult result (λ b. (spots_of b ≡ draft_spots self) × (gates_of b ≡ draft_gates self)) (Cause (draft_spots self) (draft_gates self)) }
     {
-        let Draft { spots, gates } = self;
-        Board::with(spots, gates)
+        Board::with(self)
     }
 }

@@ -1,6 +1,11 @@
 ghost use Rattle.board.specs.GateRefused.{told as gate_told};
 ghost use Rattle.board.specs.SpotsRefused.{told as spots_told};
+ghost use Rattle.board.specs.declared.draft.refusal.GateRefusal.TheVariants.{NoMemory};
+ghost use Rattle.std.specs.Option.{option_map};
 ghost use Rattle.std.specs.Prelude.{◌≡◌};
+
+use crate::gate::Gate;
+use std::alloc::AllocFailed;
 
 // Why a number of spots makes no board.
 #[derive(Clone, Copy, PartialEq, Eq, Debug)]
@@ -36,16 +41,24 @@ pub enum GateRefusal {
 }
 
 impl GateRefusal {
-    // The refusal's number; 0 for want of memory, which has none.
-    pub fn number(self) -> u8
-        ensures { result ≡ (gate_told self).0 }
+    // The refusal's number; want of memory has none.
+    pub fn number(self) -> Option<u8>
+        ensures { result ≡ option_map (λ t. t.0) (gate_told self) }
     {
         match self {
-            GateRefusal::OffBoard => 7,
-            GateRefusal::EqualEnds => 8,
-            GateRefusal::RepeatedPair => 8,
-            GateRefusal::TooMany => 9,
-            GateRefusal::NoMemory => 0,
+            GateRefusal::OffBoard => Some(7),
+            GateRefusal::EqualEnds | GateRefusal::RepeatedPair => Some(8),
+            GateRefusal::TooMany => Some(9),
+            GateRefusal::NoMemory => None,
         }
+    }
+}
+
+// A gate that finds no memory is refused for want of it.
+impl From<AllocFailed<Gate>> for GateRefusal {
+    ghost from_gives = { λ _ e. e ≡ NoMemory };
+
+    fn from(_failed: AllocFailed<Gate>) -> GateRefusal {
+        GateRefusal::NoMemory
     }
 }

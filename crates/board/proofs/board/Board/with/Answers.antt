@@ -1,6 +1,5 @@
 use Rattle.std.proofs.Common.{◌*◌, ◌≤◌, arith}
 use Rattle.std.proofs.lemmas.Nat.{mul-le}
-use Rattle.board.proofs.Limits.{before}
 use Rattle.board.proofs.Clocks.{period_small}
 use Rattle.board.proofs.board.Board.with.Goals as goal
 
@@ -10,17 +9,15 @@ overflow_mul-period c = omega (arith, period_small _ _ c.period_of-period.ensure
 pub overflow_mul-period-2 : goal.overflow_mul-period-2
 overflow_mul-period-2 c =
     let p = period_small _ _ c.period_of-period.ensures in
-    omega (arith, mul-le (c.period_of-period.result * 2) c.args.spots (144403552893600 * 2) 64 (omega arith) c.requires.lawful_spots.1)
+    let n = c.from-n.result in
+    let few : n ≤ 64 = omega (arith, c.from-n.ensures, c.spots.ensures, c.args.draft.sized.1) in
+    omega (arith, mul-le (c.period_of-period.result * 2) n (144403552893600 * 2) 64 (omega arith) few)
 
 pub overflow_mul-period-3 : goal.overflow_mul-period-3
 overflow_mul-period-3 c =
     let p = period_small _ _ c.period_of-period.ensures in
+    let n = c.from-n.result in
     let t = c.period_of-period.result * 2 in
-    let q : t * c.args.spots ≤ 144403552893600 * 2 * 64 = mul-le t c.args.spots (144403552893600 * 2) 64 (omega arith) c.requires.lawful_spots.1 in
-    omega (arith, mul-le (t * c.args.spots) c.args.spots (144403552893600 * 2 * 64) 64 q c.requires.lawful_spots.1)
-
-pub overflow_cast-result : goal.overflow_cast-result
-overflow_cast-result c =
-    let n = c.args.spots in
-    let t = c.period_of-period.result * 2 in
-    omega (arith, before t n _ c.requires.lawful_spots.0 (before (t * n) n _ c.requires.lawful_spots.0 c.if-period-n-gt-MOST_PLACES.false))
+    let few : n ≤ 64 = omega (arith, c.from-n.ensures, c.spots.ensures, c.args.draft.sized.1) in
+    let q : t * n ≤ 144403552893600 * 2 * 64 = mul-le t n (144403552893600 * 2) 64 (omega arith) few in
+    omega (arith, mul-le (t * n) n (144403552893600 * 2 * 64) 64 q few)
