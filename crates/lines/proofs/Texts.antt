@@ -16,7 +16,7 @@ use Rattle.lines.specs.declared.rest.Rest.{Rest}
 use Rattle.lines.specs.declared.rest.Taken.{Taken}
 use Rattle.lines.proofs.Refusing.{refused_took}
 use Rattle.lines.specs.Grammar.{Kind, Forms, spaced, first, second, kinds, Marked}
-use Rattle.lines.specs.Lines.{mark_of, texts, line_bytes, entry_of, fields, Laid, LineAt, Answers, start, ahead as left, PartOf}
+use Rattle.lines.specs.Lines.{mark_of, texts, Formed, line_bytes, entry_of, fields, Laid, LineAt, Answers, start, ahead as left, PartOf}
 use Rattle.lines.specs.Reading.{RestOf, Took, shown, ReadsRest, StopsAt, Completes, ReadsAfter}
 
 -- the bytes of a mark at the front
@@ -78,19 +78,28 @@ module _ (m : Mark) (at : ℕ) (l : List ℕ) (after : Rest) (r : Found) (marked
   pub found_within : r.next - at ≤ length l
   found_within = omega (arith, ap length found_whole, length-append (line_bytes (entry_of r.line)) h.rest.after, found_next)
 
-  pub found_line : (t : Part) → t.bytes.now ≡ take (r.next - at) l → t.offset ≡ at → LineAt at l (record { text = t; line = r.line; next = r.next })
-  found_line t front offset =
-      let bytes = line_bytes (entry_of r.line) in
-      let next = found_next in
+  pub found_formed : Formed (entry_of r.line)
+  found_formed =
+      subst (λ x. Forms (kinds x) (texts (entry_of r.line))) (sym h.marked) (subst (Forms (kinds m)) (shown_is r.line) h.rest.formed)
+
+  pub found_laid : Laid (at + 2) (fields r.line)
+  found_laid = subst (λ a. Laid a (fields r.line)) here h.rest.laid
+
+  pub found_line : (x : Read) → x.line ≡ r.line → x.next ≡ r.next → x.text.bytes.now ≡ take (r.next - at) l → x.text.offset ≡ at → LineAt at l x
+  found_line x line next front offset =
+      let bytes = line_bytes (entry_of x.line) in
+      let entry : entry_of x.line ≡ entry_of r.line = ap entry_of line in
+      let parts : l ≡ bytes ++ h.rest.after = found_whole ∙ ap (λ e. line_bytes e ++ h.rest.after) (sym entry) in
+      let ends : r.next ≡ at + length bytes = found_next ∙ ap (λ e. at + length (line_bytes e)) (sym entry) in
       let size : r.next - at ≡ length bytes = omega arith in
       record {
         after = h.rest.after;
-        parts = found_whole;
-        formed = subst (λ x. Forms (kinds x) (texts (entry_of r.line))) (sym h.marked) (subst (Forms (kinds m)) (shown_is r.line) h.rest.formed);
-        laid = subst (λ a. Laid a (fields r.line)) here h.rest.laid;
-        text = front ∙ ap (λ n. take n l) size ∙ ap (take (length bytes)) found_whole ∙ take-append_seam bytes h.rest.after;
+        parts = parts;
+        formed = x.formed;
+        laid = subst (λ a. Laid (a + 2) (fields x.line)) offset x.laid;
+        text = front ∙ ap (λ n. take n l) size ∙ ap (take (length bytes)) parts ∙ take-append_seam bytes h.rest.after;
         offset = offset;
-        next = next;
+        next = next ∙ ends;
       }
 
 -- the fields of a line are parts of the sheet

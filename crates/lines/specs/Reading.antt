@@ -8,7 +8,7 @@ use Rattle.lines.specs.declared.rest.Found.{Found}
 use Rattle.lines.specs.declared.rest.Rest.{Rest}
 use Rattle.lines.specs.declared.rest.Taken.{Taken}
 use Rattle.lines.specs.Grammar.{Kind, Byte, FieldOf, Forms, spaced, kinds, Refused}
-use Rattle.lines.specs.Lines.{mark_of, entry_of, fields, Laid}
+use Rattle.lines.specs.Entries.{mark_of, entry_of, fields, Laid}
 
 -- what a pattern's character says of its step
 abbrev pub Says : ℕ → Option Bool → Type 0

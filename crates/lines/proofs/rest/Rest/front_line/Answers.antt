@@ -13,4 +13,4 @@ returns-in_err-line c =
 
 pub returns : goal.returns
 returns c =
-    found_line c.in-Some.mark c.args.self.at c.args.self.bytes.now _ c.in_ok-line.field-0 c.in-Some.ensures refl c.in_ok-line.ensures _ c.split_at.ensures.front refl
+    found_line c.in-Some.mark c.args.self.at c.args.self.bytes.now _ c.in_ok-line.field-0 c.in-Some.ensures refl c.in_ok-line.ensures _ refl refl c.split_at.ensures.front refl
