@@ -3,9 +3,7 @@ use Rattle.std.proofs.Common.{◌≡◌, ℕ, ◌+◌, ◌<◌, ◌≤◌, List,
 use Rattle.std.proofs.ByRecursion.{All-get_or, All-from_get_or}
 use Rattle.std.proofs.lemmas.List.{take_more}
 use Rattle.std.specs.List.{AllByRecursion}
-use Rattle.lines.specs.declared.kind.Kind.{Kind}
-use Rattle.lines.specs.declared.kind.Kind.TheVariants.{Number, Pattern}
-use Rattle.lines.specs.Grammar.{Byte, most, Plain, FieldOf, Forms, spaced}
+use Rattle.lines.specs.Grammar.{Kind, Number, Pattern, Byte, most, Plain, FieldOf, Forms, spaced}
 use Rattle.lines.specs.Reading.{Run, Longest, Ends}
 
 -- two ways to cut one text

@@ -1,20 +1,14 @@
 -- The numbers and the bits that texts write.
-use Rattle.std.proofs.Common.{◌≡◌, ℕ, zero, suc, ◌+◌, ◌-◌, ◌*◌, ◌/◌, ◌%◌, ◌^◌, ◌<◌, ◌≤◌, min, List, [], ◌∷◌, ◌++◌, map, length, get_or, take, drop, sym, refl, ap, ◌∙◌, pow-suc, one-add, arith, length-drop, drop_of_length-le, length-take, take_all, get_or-take, pow_mono}
+use Rattle.std.proofs.Common.{◌≡◌, ℕ, zero, suc, ◌+◌, ◌-◌, ◌*◌, ◌/◌, ◌%◌, ◌^◌, ◌<◌, ◌≤◌, min, List, [], ◌∷◌, ◌++◌, Some, Option, map, length, get_or, take, reverse, fold, sym, refl, ap, ◌∙◌, subst, pow-suc, add-one, one-add, arith, length-append, length-take, take_all, get_or-take, pow_mono}
 use Rattle.std.proofs.lemmas.Nat.{shr-shr}
 use Rattle.std.proofs.lemmas.Bool.Decides.{nat_tests}
-use Rattle.std.proofs.lemmas.List.{take_more, drop_more}
+use Rattle.std.proofs.lemmas.Fn.{serves_by}
+use Rattle.std.proofs.lemmas.List.{take_min, reverse-append}
+use Rattle.std.proofs.lemmas.List.Sums.{fold_push}
 use Rattle.std.specs.Int.Digits.{number_from_digits_after}
-use Rattle.lines.specs.declared.kind.Kind.TheVariants.{Number}
-use Rattle.lines.specs.Grammar.{FieldOf}
+use Rattle.std.specs.Iterator.{Yields, AlwaysYields, CallableAtEachTurn}
+use Rattle.lines.specs.Grammar.{Number, FieldOf}
 use Rattle.lines.specs.Values.{decimal, bit, bits, Numbered, Stepped}
-
-push_after : (n : ℕ) (f : List ℕ) (b : ℕ) → number_from_digits_after 10 n (map (λ x. x - 48) (f ++ (b ∷ []))) ≡ number_from_digits_after 10 n (map (λ x. x - 48) f) * 10 + (b - 48)
-push_after n [] b = refl
-push_after n (c ∷ f) b = push_after (n * 10 + (c - 48)) f b
-
--- one more digit
-pub decimal_more : (f : List ℕ) (i : ℕ) → i < length f → decimal (take (i + 1) f) ≡ decimal (take i f) * 10 + (get_or f i 0 - 48)
-decimal_more f i h = ap decimal (take_more f i 0 h) ∙ push_after 0 (take i f) (get_or f i 0)
 
 -- three digits write less than a thousand
 pub decimal_small : (f : List ℕ) → FieldOf Number f → decimal f < 1000
@@ -24,12 +18,21 @@ decimal_small (a ∷ b ∷ []) h = omega (arith, h.bytes.0.1, h.bytes.1.0.1)
 decimal_small (a ∷ b ∷ c ∷ []) h = omega (arith, h.bytes.0.1, h.bytes.1.0.1, h.bytes.1.1.0.1)
 decimal_small (a ∷ b ∷ c ∷ d ∷ f) h = absurd (omega (arith, h.short))
 
--- digits read one at a time, and held to 16 bits each time, are the number held to 16 bits
-pub held_more : (n d : ℕ) → min (min (min n 65535 * 10) 65535 + d) 65535 ≡ min (n * 10 + d) 65535
-held_more n d = omega arith
+-- one more digit of a number, held to 16 bits
+abbrev pub held : ℕ → ℕ → ℕ
+held n b = min (min (n * 10) 65535 + (b - 48)) 65535
 
-pub numbered : (f : List ℕ) → Numbered f (min (decimal f) 65535)
-numbered f = record { any = refl; field = λ h. omega (arith, decimal_small f h) }
+-- digits read one at a time, and held to 16 bits each time, are the number held to 16 bits
+held_all : (n : ℕ) (f : List ℕ) → fold held (min n 65535) f ≡ min (number_from_digits_after 10 n (map (λ b. b - 48) f)) 65535
+held_all n [] = refl
+held_all n (b ∷ f) =
+    let once : held (min n 65535) b ≡ min (n * 10 + (b - 48)) 65535 = omega arith in
+    ap (λ m. fold held m f) once ∙ held_all (n * 10 + (b - 48)) f
+
+pub numbered : (f : List ℕ) (r : ℕ) → r ≡ fold held 0 f → Numbered f r
+numbered f r e =
+    let any : r ≡ min (decimal f) 65535 = e ∙ held_all 0 f in
+    record { any = any; field = λ h. omega (arith, any, decimal_small f h) }
 
 bit_one : (b : ℕ) → b ≡ 49 → bit b ≡ 1
 bit_one b e = ap bit e
@@ -52,29 +55,41 @@ bits_at (b ∷ p) (suc i) h =
     let half : (bit b + 2 * bits p) / 2 ^ 1 ≡ bits p = omega (arith, bit_le b) in
     rw (sym (one-add i), sym (shr-shr (bit b + 2 * bits p) 1 i), half) (bits_at p i (omega arith))
 
+-- one more step ahead
+abbrev pub doubled : ℕ → ℕ → ℕ
+doubled n b = n * 2 + bit b
+
 -- bits read from the last character to the first
-pub bits_back : (p : List ℕ) (i : ℕ) → 0 < i → i ≤ min (length p) 32 → bits (drop (i - 1) (take 32 p)) ≡ bits (drop i (take 32 p)) * 2 + bit (get_or p (i - 1) 0)
-bits_back p i some within =
-    let long = length-take 32 p in
-    let more = ap bits (drop_more (take 32 p) (i - 1) 0 (omega arith)) in
-    let same : (i - 1) + 1 ≡ i = omega arith in
-    let here : get_or (take 32 p) (i - 1) 0 ≡ get_or p (i - 1) 0 = get_or-take 32 p (i - 1) 0 (omega arith) in
-    omega (arith, rw (same, here) at more)
+bits_back : (p : List ℕ) → fold doubled 0 (reverse p) ≡ bits p
+bits_back [] = refl
+bits_back (b ∷ p) =
+    let last = ap (fold doubled 0) (reverse-append (b ∷ []) p) ∙ fold_push doubled 0 (reverse p) b in
+    omega (arith, last, bits_back p)
 
-pub bits_none : (p : List ℕ) (i : ℕ) → i ≡ min (length p) 32 → 0 ≡ bits (drop i (take 32 p))
-bits_none p i e = let long = length-take 32 p in ap bits (sym (drop_of_length-le (take 32 p) (omega arith)))
+-- whatever has come of a list and goes on is shorter than the list
+pub comes_within : {S A B : Type 0} (steps : S → Option A → S → Type 0) (v : A → B) (s : S) (all : List B) (xs : List A) (t : S) (x : A) (u : S) → AlwaysYields steps v s all → Yields steps s xs t → steps t (Some x) u → length xs < length all
+comes_within steps v s [] [] t x u h y more = absurd (h x u (subst (λ a. steps a (Some x) u) (sym y) more))
+comes_within steps v s [] (z ∷ xs) t x u h y more = absurd (h z y.0 y.1)
+comes_within steps v s (w ∷ all) [] t x u h y more = omega arith
+comes_within steps v s (w ∷ all) (z ∷ xs) t x u h y more =
+    omega (arith, comes_within steps v y.0 all xs t x u (h.1 z y.0 y.1).1 y.2 more)
 
--- after the first character there is room for one more
-pub bits_room : (p : List ℕ) (i : ℕ) → 0 < i → bits (drop i (take 32 p)) < 2147483648
-bits_room p i some =
-    let long = length-take 32 p in
-    let left = length-drop i (take 32 p) in
-    let few : length (drop i (take 32 p)) ≤ 31 = omega arith in
-    let most : 2 ^ length (drop i (take 32 p)) ≤ 2 ^ 31 = pow_mono few in
-    omega (arith, bits_lt (drop i (take 32 p)))
+-- 32 characters at most never fill 32 bits before the last
+pub doubles : {S A F : Type 0} (steps : S → Option A → S → Type 0) (v : A → ℕ) (R : F × ℕ → A → F × ℕ → Type 0) (Q : F × ℕ → A → Type 0) (s : S) (f : F) (all : List ℕ) → AlwaysYields steps v s all → length all ≤ 32 → ((p q : F × ℕ) (x : A) → R p x q → q.1 ≡ doubled p.1 (v x)) → ((p : F × ℕ) (x : A) → p.1 < 2147483648 → Q p x) → CallableAtEachTurn steps R Q s (f, 0)
+doubles steps v R Q s f all from few is asks =
+    serves_by R (λ xs q. q.1 < 2 ^ length xs)
+    (λ xs q x u below turn.
+    let long : length (xs ++ (x ∷ [])) ≡ length xs + 1 = length-append xs (x ∷ []) in
+    rw (long, add-one, pow-suc) (omega (arith, is q u x turn, bit_le (v x))))
+    steps Q s (f, 0) (omega arith)
+    (λ xs t q x u come more below.
+    let left = comes_within steps v s all xs t x u from come more in
+    let fewer : length xs ≤ 31 = omega arith in
+    let least : 2 ^ length xs ≤ 2 ^ 31 = pow_mono fewer in
+    asks q x (omega arith))
 
-pub stepped : (p : List ℕ) → Stepped p (bits (take 32 p))
-stepped p =
+stepped_all : (p : List ℕ) → Stepped p (bits (take 32 p))
+stepped_all p =
     let long = length-take 32 p in
     let most : 2 ^ length (take 32 p) ≤ 2 ^ length p = pow_mono (omega arith) in
     let at : (i : ℕ) → i < 32 → i < length p → bits (take 32 p) / 2 ^ i % 2 ≡ bit (get_or p i 0) = λ i few h. bits_at (take 32 p) i (omega arith) ∙ ap bit (get_or-take 32 p i 0 few) in
@@ -85,3 +100,8 @@ stepped p =
       opens = λ i few h e. at i few h ∙ bit_one (get_or p i 0) e;
       shuts = λ i few h e. bit_is (get_or p i 0) (sym (at i few h) ∙ e);
     }
+
+pub stepped : (p : List ℕ) (n r : ℕ) → n ≡ min (length p) 32 → r ≡ fold doubled 0 (reverse (take n p)) → Stepped p r
+stepped p n r within e =
+    let same : take n p ≡ take 32 p = ap (λ i. take i p) (let e : n ≡ min 32 (length p) = omega arith in e) ∙ take_min 32 p in
+    subst (Stepped p) (sym (e ∙ bits_back (take n p) ∙ ap bits same)) (stepped_all p)

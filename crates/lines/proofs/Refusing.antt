@@ -1,10 +1,11 @@
 -- Refusals: where each part of the line reader stops.
 use Rattle.std.proofs.Common.{◌≡◌, ℕ, ◌+◌, ◌<◌, List, [], ◌∷◌, ◌++◌, length, get_or, sym, refl, ap, ◌∙◌, subst, append_assoc, append-nil, arith, length-append}
-use Rattle.lines.specs.declared.field.Taken.{Taken}
-use Rattle.lines.specs.declared.kind.Kind.{Kind}
 use Rattle.lines.specs.declared.line.Mark.{Mark}
-use Rattle.lines.specs.Grammar.{FieldOf, Forms, spaced, first, second, kinds, Marked, LineOf, Viable, Stuck, Refused}
-use Rattle.lines.specs.Reading.{Longest, Ends, RestOf, Took}
+use Rattle.lines.specs.declared.refusal.NoLine.{NoLine}
+use Rattle.lines.specs.declared.rest.Rest.{Rest}
+use Rattle.lines.specs.declared.rest.Taken.{Taken}
+use Rattle.lines.specs.Grammar.{Kind, FieldOf, Forms, spaced, first, second, kinds, Marked, LineOf, Viable, Stuck, Refused}
+use Rattle.lines.specs.Reading.{Longest, Ends, RestOf, Took, StopsAt}
 use Rattle.lines.proofs.Fields.{closed, zero_field, cut_once, spaced_ends}
 
 -- one space, a field, and the rest
@@ -106,9 +107,10 @@ stuck_step k ks f t seen (b ∷ q) good ends e h = λ v.
     h (record { on = v.on; makes = cut_after k ks f ((seen ++ b ∷ []) ++ v.on) good (ends_one k f seen b q v.on t e ends) (subst (λ x. RestOf (k ∷ ks) (32 ∷ x)) moved v.makes) })
 
 -- a field was read whole, and what follows it is refused
-pub refused_took : (k : Kind) (ks : List Kind) (at : ℕ) (l : List ℕ) (t : Taken) (place : ℕ) → Took k at l t → Refused (RestOf ks) t.at t.rest.now place → Refused (RestOf (k ∷ ks)) at l place
-refused_took k ks at l t place h r =
+pub refused_took : (k : Kind) (ks : List Kind) (s : Rest) (t : Taken) (why : NoLine) → Took k s t → StopsAt (RestOf ks) t.rest why → StopsAt (RestOf (k ∷ ks)) s why
+refused_took k ks s t why h r =
     let f = t.field.bytes.now in
+    let x = t.rest.bytes.now in
     let on = with_field k ks f (r.seen ++ r.viable.on) h.good r.viable.makes in
     record {
       seen = 32 ∷ (f ++ r.seen);
@@ -116,8 +118,8 @@ refused_took k ks at l t place h r =
       whole = h.parts ∙ ap (λ x. 32 ∷ (f ++ x)) r.whole ∙ ap (λ x. 32 ∷ x) (sym (append_assoc f r.seen r.left));
       here = omega (arith, r.here, h.goes_on, h.offset, length-append f r.seen);
       viable = record { on = r.viable.on; makes = subst (λ x. RestOf (k ∷ ks) (32 ∷ x)) (sym (append_assoc f r.seen r.viable.on)) on };
-      unended = λ v. r.unended (cut_after k ks f r.seen h.good (ends_front k f r.seen r.left t.rest.now r.whole h.ends) v);
-      stuck = stuck_step k ks f t.rest.now r.seen r.left h.good h.ends r.whole r.stuck;
+      unended = λ v. r.unended (cut_after k ks f r.seen h.good (ends_front k f r.seen r.left x r.whole h.ends) v);
+      stuck = stuck_step k ks f x r.seen r.left h.good h.ends r.whole r.stuck;
     }
 
 stuck_end : (l : List ℕ) → (0 < length l → get_or l 0 0 ≡ 10 → ⊥) → Stuck (RestOf []) [] l

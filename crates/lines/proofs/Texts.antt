@@ -1,20 +1,23 @@
 -- Lines: what their marks and fields give.
-use Rattle.std.proofs.Common.{◌≡◌, ℕ, ◌+◌, ◌-◌, ◌<◌, ◌≤◌, List, [], ◌∷◌, ◌++◌, length, get_or, take, drop, IfOk, Ok, Err, Result, sym, refl, ap, ◌∙◌, subst, append_assoc, arith, length-append, take-append-drop, length-take-le}
+use Rattle.std.proofs.Common.{◌≡◌, ℕ, ◌+◌, ◌-◌, ◌<◌, ◌≤◌, List, [], ◌∷◌, ◌++◌, length, get_or, take, drop, IfOk, MatchResult, Ok, Err, Result, sym, refl, ap, ◌∙◌, subst, append_assoc, arith, length-append, take-append-drop, length-take-le}
 use Rattle.std.proofs.Math.Seq.{take-append_seam}
 use Rattle.std.proofs.lemmas.List.{drop_more, take_rest}
+use Rattle.std.proofs.lemmas.Result.{MatchResult-weaker}
 use Rattle.std.specs.List.{AllByRecursion}
-use Rattle.lines.specs.declared.field.Taken.{Taken}
-use Rattle.lines.specs.declared.kind.Kind.{Kind}
-use Rattle.lines.specs.declared.line.Found.{Found}
 use Rattle.lines.specs.declared.line.Line.{Line}
 use Rattle.lines.specs.declared.line.Line.TheVariants.{Board, Gate, Trap, End}
 use Rattle.lines.specs.declared.line.Mark.{Mark}
 use Rattle.lines.specs.declared.line.Read.{Read}
 use Rattle.lines.specs.declared.part.Part.{Part}
+use Rattle.lines.specs.declared.refusal.NoLine.{NoLine}
 use Rattle.lines.specs.declared.refusal.Refusal.{Refusal}
-use Rattle.lines.specs.Grammar.{Forms, spaced, first, second, kinds, Marked}
-use Rattle.lines.specs.Lines.{mark_of, texts, line_bytes, entry_of, fields, Laid, LineAt, Answers, start, ahead, PartOf}
-use Rattle.lines.specs.Reading.{Took, shown, ReadsRest, ReadsAfter}
+use Rattle.lines.specs.declared.rest.Found.{Found}
+use Rattle.lines.specs.declared.rest.Rest.{Rest}
+use Rattle.lines.specs.declared.rest.Taken.{Taken}
+use Rattle.lines.proofs.Refusing.{refused_took}
+use Rattle.lines.specs.Grammar.{Kind, Forms, spaced, first, second, kinds, Marked}
+use Rattle.lines.specs.Lines.{mark_of, texts, Formed, line_bytes, entry_of, fields, Laid, LineAt, Answers, start, ahead as left, PartOf}
+use Rattle.lines.specs.Reading.{RestOf, Took, shown, ReadsRest, StopsAt, Completes, ReadsAfter}
 
 -- the bytes of a mark at the front
 pub marked_from : (m : Mark) (l : List ℕ) → 1 < length l → get_or l 0 0 ≡ first m → get_or l 1 0 ≡ second m → Marked m l (take (length l - 2) (drop 2 l))
@@ -23,14 +26,16 @@ marked_from m l long a b = record {
 }
 
 -- byte 10 at the front ends the line
-pub reads_end : (at : ℕ) (l : List ℕ) → 0 < length l → get_or l 0 0 ≡ 10 → ReadsRest at l [] [] (at + 1)
-reads_end at l some is = record { after = drop 1 l; parts = drop_more l 0 0 some ∙ ap (λ b. b ∷ drop 1 l) is; formed = tt; laid = tt; ends = omega arith }
+pub reads_end : (s : Rest) → 0 < length s.bytes.now → get_or s.bytes.now 0 0 ≡ 10 → ReadsRest s [] [] (s.at + 1)
+reads_end s some is =
+    let l = s.bytes.now in
+    record { after = drop 1 l; parts = drop_more l 0 0 some ∙ ap (λ b. b ∷ drop 1 l) is; formed = tt; laid = tt; ends = omega arith }
 
 -- one more field ahead
-pub reads_after : (k : Kind) (ks : List Kind) (at : ℕ) (l : List ℕ) (t : Taken) (fs : List Part) (next : ℕ) → Took k at l t → ReadsRest t.at t.rest.now ks fs next → ReadsRest at l (k ∷ ks) (t.field ∷ fs) next
-reads_after k ks at l t fs next h r =
+pub reads_after : (k : Kind) (ks : List Kind) (s : Rest) (t : Taken) (fs : List Part) (next : ℕ) → Took k s t → ReadsRest t.rest ks fs next → ReadsRest s (k ∷ ks) (t.field ∷ fs) next
+reads_after k ks s t fs next h r =
     let bytes = t.field.bytes.now in
-    let from : t.at ≡ at + 1 + length bytes = omega (arith, h.goes_on, h.offset) in
+    let from : t.rest.at ≡ s.at + 1 + length bytes = omega (arith, h.goes_on, h.offset) in
     record {
       after = r.after;
       parts = h.parts ∙ ap (λ x. 32 ∷ (bytes ++ x)) r.parts ∙ ap (λ x. 32 ∷ x) (sym (append_assoc bytes (spaced (shown fs)) r.after));
@@ -39,6 +44,19 @@ reads_after k ks at l t fs next h r =
       ends = omega (arith, r.ends, length-append bytes (spaced (shown fs)));
     }
 
+-- one more field ahead of what completes a line
+pub ahead : (k : Kind) (ks : List Kind) (s : Rest) (t : Taken) (fs : List Part) (x : Line) (r : Result Found NoLine) → Took k s t → Completes x t.rest ks fs r → Completes x s (k ∷ ks) (t.field ∷ fs) r
+ahead k ks s t fs x r h c =
+    MatchResult-weaker r c (λ found p. (p.0, reads_after k ks s t fs found.next h p.1)) (λ why q. refused_took k ks s t why h q)
+
+-- what completes a line of the mark is what follows the mark
+pub completed : (m : Mark) (s : Rest) (x : Line) (r : Result Found NoLine) → mark_of (entry_of x) ≡ m → Completes x s (kinds m) (fields x) r → MatchResult r (λ found. ReadsAfter m s found) (λ why. StopsAt (RestOf (kinds m)) s why)
+completed m s x r marked c =
+    MatchResult-weaker r c (λ found p. record {
+      marked = ap (λ y. mark_of (entry_of y)) p.0 ∙ marked;
+      rest = subst (λ y. ReadsRest s (kinds m) (fields y) found.next) (sym p.0) p.1;
+    }) (λ why q. q)
+
 shown_is : (x : Line) → shown (fields x) ≡ texts (entry_of x)
 shown_is (Board n) = refl
 shown_is (Gate u v p) = refl
@@ -46,35 +64,43 @@ shown_is (Trap v) = refl
 shown_is End = refl
 
 -- what is found after a mark is a line with it
-found_whole : (m : Mark) (at : ℕ) (l after : List ℕ) (r : Found) → Marked m l after → (h : ReadsAfter m (at + 2) after r) → l ≡ line_bytes (entry_of r.line) ++ h.rest.after
-found_whole m at l after r marked h =
-    let e = entry_of r.line in
-    let front : l ≡ first (mark_of e) ∷ second (mark_of e) ∷ after = subst (λ x. l ≡ first x ∷ second x ∷ after) (sym h.marked) marked.parts in
-    front ∙ ap (λ x. first (mark_of e) ∷ second (mark_of e) ∷ x) (h.rest.parts ∙ ap (λ fs. spaced fs ++ h.rest.after) (shown_is r.line))
+module _ (m : Mark) (at : ℕ) (l : List ℕ) (after : Rest) (r : Found) (marked : Marked m l after.bytes.now) (here : after.at ≡ at + 2) (h : ReadsAfter m after r) where
+  found_whole : l ≡ line_bytes (entry_of r.line) ++ h.rest.after
+  found_whole =
+      let e = entry_of r.line in
+      let front : l ≡ first (mark_of e) ∷ second (mark_of e) ∷ after.bytes.now = subst (λ x. l ≡ first x ∷ second x ∷ after.bytes.now) (sym h.marked) marked.parts in
+      front ∙ ap (λ x. first (mark_of e) ∷ second (mark_of e) ∷ x) (h.rest.parts ∙ ap (λ fs. spaced fs ++ h.rest.after) (shown_is r.line))
 
-found_next : (m : Mark) (at : ℕ) (after : List ℕ) (r : Found) → ReadsAfter m (at + 2) after r → r.next ≡ at + length (line_bytes (entry_of r.line))
-found_next m at after r h = omega (arith, h.rest.ends, ap (λ fs. length (spaced fs)) (shown_is r.line))
+  found_next : r.next ≡ at + length (line_bytes (entry_of r.line))
+  found_next = omega (arith, here, h.rest.ends, ap (λ fs. length (spaced fs)) (shown_is r.line))
 
--- and it ends within the text
-pub found_within : (m : Mark) (at : ℕ) (l after : List ℕ) (r : Found) → Marked m l after → ReadsAfter m (at + 2) after r → r.next - at ≤ length l
-found_within m at l after r marked h =
-    omega (arith, ap length (found_whole m at l after r marked h), length-append (line_bytes (entry_of r.line)) h.rest.after, found_next m at after r h)
+  -- and it ends within the text
+  pub found_within : r.next - at ≤ length l
+  found_within = omega (arith, ap length found_whole, length-append (line_bytes (entry_of r.line)) h.rest.after, found_next)
 
-pub found_line : (m : Mark) (at : ℕ) (l after : List ℕ) (r : Found) (t : Part) → Marked m l after → ReadsAfter m (at + 2) after r → t.bytes.now ≡ take (r.next - at) l → t.offset ≡ at → LineAt at l (record { text = t; line = r.line; next = r.next })
-found_line m at l after r t marked h front here =
-    let bytes = line_bytes (entry_of r.line) in
-    let whole = found_whole m at l after r marked h in
-    let next = found_next m at after r h in
-    let size : r.next - at ≡ length bytes = omega arith in
-    record {
-      after = h.rest.after;
-      parts = whole;
-      formed = subst (λ x. Forms (kinds x) (texts (entry_of r.line))) (sym h.marked) (subst (Forms (kinds m)) (shown_is r.line) h.rest.formed);
-      laid = h.rest.laid;
-      text = front ∙ ap (λ n. take n l) size ∙ ap (take (length bytes)) whole ∙ take-append_seam bytes h.rest.after;
-      offset = here;
-      next = next;
-    }
+  pub found_formed : Formed (entry_of r.line)
+  found_formed =
+      subst (λ x. Forms (kinds x) (texts (entry_of r.line))) (sym h.marked) (subst (Forms (kinds m)) (shown_is r.line) h.rest.formed)
+
+  pub found_laid : Laid (at + 2) (fields r.line)
+  found_laid = subst (λ a. Laid a (fields r.line)) here h.rest.laid
+
+  pub found_line : (x : Read) → x.line ≡ r.line → x.next ≡ r.next → x.text.bytes.now ≡ take (r.next - at) l → x.text.offset ≡ at → LineAt at l x
+  found_line x line next front offset =
+      let bytes = line_bytes (entry_of x.line) in
+      let entry : entry_of x.line ≡ entry_of r.line = ap entry_of line in
+      let parts : l ≡ bytes ++ h.rest.after = found_whole ∙ ap (λ e. line_bytes e ++ h.rest.after) (sym entry) in
+      let ends : r.next ≡ at + length bytes = found_next ∙ ap (λ e. at + length (line_bytes e)) (sym entry) in
+      let size : r.next - at ≡ length bytes = omega arith in
+      record {
+        after = h.rest.after;
+        parts = parts;
+        formed = x.formed;
+        laid = subst (λ a. Laid (a + 2) (fields x.line)) offset x.laid;
+        text = front ∙ ap (λ n. take n l) size ∙ ap (take (length bytes)) parts ∙ take-append_seam bytes h.rest.after;
+        offset = offset;
+        next = next ∙ ends;
+      }
 
 -- the fields of a line are parts of the sheet
 fields_parts : (fs : List Part) (sheet before after : List ℕ) (at : ℕ) → sheet ≡ before ++ (spaced (shown fs) ++ after) → at ≡ length before → Laid at fs → AllByRecursion (PartOf sheet) fs
@@ -89,7 +115,7 @@ fields_parts (f ∷ fs) sheet before after at e here h =
     )
 
 -- and so is its whole text
-pub answer_parts : (sheet : List ℕ) (at : ℕ) (r : Result Read Refusal) → Answers (start sheet at) (ahead sheet at) r → IfOk r (λ x. AllByRecursion (PartOf sheet) (x.text ∷ fields x.line))
+pub answer_parts : (sheet : List ℕ) (at : ℕ) (r : Result Read Refusal) → Answers (start sheet at) (left sheet at) r → IfOk r (λ x. AllByRecursion (PartOf sheet) (x.text ∷ fields x.line))
 answer_parts sheet at (Err why) h = tt
 answer_parts sheet at (Ok x) h =
     let e = entry_of x.line in

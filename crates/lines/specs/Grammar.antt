@@ -3,8 +3,11 @@ use Rattle.std.specs.Prelude.{◌≡◌, ℕ, ◌+◌, ◌<◌, ◌≤◌, ◌�
 use Rattle.std.specs.List.{AllByRecursion}
 use Rattle.lines.specs.declared.line.Mark.{Mark}
 use Rattle.lines.specs.declared.line.Mark.TheVariants.{Board, Gate, Trap, End}
-use Rattle.lines.specs.declared.kind.Kind.{Kind}
-use Rattle.lines.specs.declared.kind.Kind.TheVariants.{Number, Pattern}
+
+-- what a field is
+pub data Kind : Type 0 where
+  Number : Kind
+  Pattern : Kind
 
 -- the bytes of a field: a number has the digits 0 to 9, a pattern the characters 0 and 1
 abbrev pub Byte : Kind → ℕ → Type 0

@@ -1,65 +1,15 @@
 -- What the line reader answers.
-use Rattle.std.specs.Prelude.{◌≡◌, ℕ, ◌+◌, min, List, [], ◌∷◌, ◌++◌, length, drop, IfOk, Result, MatchResult}
+use Rattle.std.specs.Prelude.{◌≡◌, ℕ, ◌+◌, min, List, ◌∷◌, ◌++◌, length, drop, IfOk, Result, MatchResult}
 use Rattle.std.specs.List.{AllByRecursion}
-use Rattle.lines.specs.declared.line.Line.{Line}
-use Rattle.lines.specs.declared.line.Line.TheVariants.{Board, Gate, Trap, End}
 use Rattle.lines.specs.declared.line.Mark.{Mark}
-use Rattle.lines.specs.declared.line.Mark.TheVariants as mark
 use Rattle.lines.specs.declared.line.Read.{Read}
 use Rattle.lines.specs.declared.part.Part.{Part}
 use Rattle.lines.specs.declared.refusal.Layer.TheVariants as layer
 use Rattle.lines.specs.declared.refusal.Refusal.{Refusal}
 use Rattle.lines.specs.declared.refusal.Told.{Told}
-use Rattle.lines.specs.Grammar.{Forms, spaced, kinds, first, second, Marked, LineOf, Refused}
+pub use Rattle.lines.specs.Entries.{Entry, board, gate, trap, end, mark_of, texts, Formed, line_bytes, entry_of, fields, Laid}
+use Rattle.lines.specs.Grammar.{Marked, LineOf, Refused}
 use Rattle.lines.specs.Refusals.{told}
-
--- a line, by the texts of its fields
-pub data Entry : Type 0 where
-  board : List ℕ → Entry
-  gate : List ℕ → List ℕ → List ℕ → Entry
-  trap : List ℕ → Entry
-  end : Entry
-
--- its mark
-abbrev pub mark_of : Entry → Mark
-mark_of (board n) = mark.Board
-mark_of (gate u v p) = mark.Gate
-mark_of (trap v) = mark.Trap
-mark_of end = mark.End
-
--- its fields in their order
-abbrev pub texts : Entry → List (List ℕ)
-texts (board n) = n ∷ []
-texts (gate u v p) = u ∷ v ∷ p ∷ []
-texts (trap v) = v ∷ []
-texts end = []
-
--- its fields are in form
-abbrev pub Formed : Entry → Type 0
-Formed e = Forms (kinds (mark_of e)) (texts e)
-
--- its bytes
-abbrev pub line_bytes : Entry → List ℕ
-line_bytes e = first (mark_of e) ∷ second (mark_of e) ∷ spaced (texts e)
-
--- what a line that was read says
-abbrev pub entry_of : Line → Entry
-entry_of (Board n) = board n.bytes.now
-entry_of (Gate u v p) = gate u.bytes.now v.bytes.now p.bytes.now
-entry_of (Trap v) = trap v.bytes.now
-entry_of End = end
-
--- its fields as parts of the sheet
-abbrev pub fields : Line → List Part
-fields (Board n) = n ∷ []
-fields (Gate u v p) = u ∷ v ∷ p ∷ []
-fields (Trap v) = v ∷ []
-fields End = []
-
--- each field's offset is where it lies, where the first space is at `at`
-abbrev pub Laid : ℕ → List Part → Type 0
-Laid at [] = Unit {0}
-Laid at (f ∷ fs) = (f.offset ≡ at + 1) × Laid (at + 1 + length f.bytes.now) fs
 
 -- r is a line at the front of l, which begins at the offset `at`
 pub record LineAt (at : ℕ) (l : List ℕ) (r : Read) : Type 0 where

@@ -1,8 +1,7 @@
 -- What the fields of a line mean.
 use Rattle.std.specs.Prelude.{◌≡◌, ℕ, ◌+◌, ◌-◌, ◌*◌, ◌/◌, ◌%◌, ◌^◌, ◌<◌, min, cond, List, [], ◌∷◌, map, length, take, ◌==◌, slice_index}
 use Rattle.std.specs.Int.Digits.{number_from_digits}
-use Rattle.lines.specs.declared.kind.Kind.TheVariants.{Number, Pattern}
-use Rattle.lines.specs.Grammar.{FieldOf}
+use Rattle.lines.specs.Grammar.{Number, Pattern, FieldOf}
 
 -- the number that digits write, each byte b as b - 48
 abbrev pub decimal : List ℕ → ℕ

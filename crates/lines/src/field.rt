@@ -1,63 +1,49 @@
-ghost use Rattle.std.specs.Prelude.{◌+◌, ◌^◌, ◌<◌, List, ◌∷◌, length, MatchResult};
-ghost use Rattle.lines.specs.Grammar.{Refused};
-ghost use Rattle.lines.specs.Reading.{Run, Longest, RestOf, Took};
+ghost use Rattle.lines.specs.Grammar.{Kind, Number as number, Pattern as pattern};
+ghost use Rattle.lines.specs.Reading.{Longest};
 
-use crate::kind::{Kind, MOST_STEPS, can_have};
-use crate::part::Part;
+use crate::step::{MOST_STEPS, step};
 
-const FEWEST: usize = 1;
-
+// The most digits that a number has.
 const MOST_DIGITS: usize = 3;
 
-// A field that was read, and what follows it, from the offset `at` on.
-#[derive(Clone, Copy)]
-pub(crate) struct Taken<'a> {
-    pub field: Part<'a>,
-    pub rest: &'a [u8],
-    pub at: usize,
+// A kind of field, as a type.
+pub(crate) trait Field {
+    // The kind as the grammar has it.
+    ghost kind: { Kind };
+
+    // How many bytes at the front are a field; 0 where none is.
+    fn field_len(body: &[u8]) -> usize
+        ensures { Longest kind body.now result };
 }
 
-// How many bytes at the front, at most `most`, can be a field's.
-fn run(kind: Kind, body: &[u8], most: usize) -> usize
-    ensures { Run kind most body.now result }
-{
-    let mut n = 0;
-    while n < most && n < body.len() && can_have(kind, body[n]) {
-        n += 1;
-    }
-    n
-}
+// The field of a number.
+pub(crate) struct Number;
 
-// How many bytes at the front are a field.
-fn field_len(kind: Kind, body: &[u8]) -> usize
-    ensures { Longest kind body.now result }
-{
-    match (kind, body) {
-        (Kind::Number, [b'0', ..]) => 1,
-        (Kind::Number, _) => run(kind, body, MOST_DIGITS),
-        (Kind::Pattern, _) => run(kind, body, MOST_STEPS),
+impl Field for Number {
+    ghost kind = { number };
+
+    fn field_len(body: &[u8]) -> usize {
+        match body {
+            [b'0', ..] => 1,
+            _ => body
+                .iter()
+                .take(MOST_DIGITS)
+                .take_while(|byte| byte.is_ascii_digit())
+                .count(),
+        }
     }
 }
 
-// One space and a field at the front of `rest`, which begins at `at`; or the offset that is refused.
-pub(crate) fn take_field<'a>(kind: Kind, rest: &'a [u8], at: usize) -> Result<Taken<'a>, usize>
-    requires { at + length rest.now < 2 ^ 64 }
-    ensures { MatchResult result (λ t. Took kind at rest.now t) (λ place. (ks : List Kind) → Refused (RestOf (kind ∷ ks)) at rest.now place) }
-{
-    let [b' ', body @ ..] = rest else {
-        return Err(at);
-    };
-    let n = field_len(kind, body);
-    if n < FEWEST {
-        return Err(at + 1);
+// The field of a pattern.
+pub(crate) struct Pattern;
+
+impl Field for Pattern {
+    ghost kind = { pattern };
+
+    fn field_len(body: &[u8]) -> usize {
+        body.iter()
+            .take(MOST_STEPS)
+            .take_while(|byte| step(**byte).is_some())
+            .count()
     }
-    let (bytes, rest) = body.split_at(n);
-    Ok(Taken {
-        field: Part {
-            bytes,
-            offset: at + 1,
-        },
-        rest,
-        at: at + 1 + n,
-    })
 }

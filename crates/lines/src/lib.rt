@@ -2,9 +2,11 @@
 #![tactic(auto)]
 
 mod field;
-pub mod kind;
 pub mod line;
 pub mod part;
+pub mod read;
 pub mod refusal;
+mod rest;
+mod step;
 #[cfg(test)]
 mod tests;

@@ -1,6 +1,6 @@
 ghost use Rattle.lines.specs.Values.{Numbered, Stepped};
 
-use crate::kind::{MOST_STEPS, step_bit};
+use crate::step::{MOST_STEPS, step_bit};
 
 // A part of a sheet, with the offset of its first byte.
 #[derive(Clone, Copy)]
@@ -14,23 +14,21 @@ impl Part<'_> {
     pub fn number(self) -> u16
         ensures { Numbered self.entry.bytes.now result }
     {
-        let mut number: u16 = 0;
-        for b in self.bytes {
-            number = number
+        self.bytes.iter().fold(0u16, |number, byte| {
+            number
                 .saturating_mul(10)
-                .saturating_add(b.saturating_sub(b'0') as u16);
-        }
-        number
+                .saturating_add(u16::from(byte.saturating_sub(b'0')))
+        })
     }
 
     // The open steps of a pattern as bits, the first step the lowest; none counts from the 33rd on.
     pub fn bits(self) -> u32
         ensures { Stepped self.entry.bytes.now result }
     {
-        let mut bits = 0;
-        for i in (0..self.bytes.len().min(MOST_STEPS)).rev() {
-            bits = bits * 2 + step_bit(self.bytes[i]);
-        }
-        bits
+        let most = self.bytes.len().min(MOST_STEPS);
+        self.bytes[..most]
+            .iter()
+            .rev()
+            .fold(0u32, |bits, byte| bits * 2 + step_bit(*byte))
     }
 }

@@ -1,5 +1,6 @@
 ghost use Rattle.std.specs.Prelude.{◌≡◌, Some};
 ghost use Rattle.lines.specs.Refusals.{printed, told};
+ghost use Rattle.lines.specs.declared.refusal.Refusal.TheVariants.{NoLine as no_line};
 
 use std::fmt;
 
@@ -38,22 +39,33 @@ pub enum Refusal {
     NoLine { offset: usize },
 }
 
+// No line of the mark goes on at the offset.
+#[derive(Clone, Copy)]
+pub(crate) struct NoLine {
+    pub offset: usize,
+}
+
+impl From<NoLine> for Refusal {
+    ghost from_gives = { λ why r. r ≡ no_line why.offset };
+
+    fn from(why: NoLine) -> Refusal {
+        Refusal::NoLine { offset: why.offset }
+    }
+}
+
 impl Refusal {
     // What the refusal tells.
     pub fn told(self) -> Told
         ensures { result ≡ told self }
     {
-        match self {
-            Refusal::NoMark { offset } => Told {
-                number: 4,
-                offset,
-                layer: Layer::Line,
-            },
-            Refusal::NoLine { offset } => Told {
-                number: 5,
-                offset,
-                layer: Layer::Line,
-            },
+        let (number, offset) = match self {
+            Refusal::NoMark { offset } => (4, offset),
+            Refusal::NoLine { offset } => (5, offset),
+        };
+        Told {
+            number,
+            offset,
+            layer: Layer::Line,
         }
     }
 }

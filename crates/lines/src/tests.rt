@@ -1,13 +1,11 @@
-use crate::line::{Line, read_line};
+use crate::line::Line;
+use crate::read::read_line;
 use crate::refusal::{Layer, Told};
 use std::test::Fail;
 
 // What the reader tells; nothing where it reads a line.
 fn refused(sheet: &[u8], at: usize) -> Option<Told> {
-    match read_line(sheet, at) {
-        Ok(_) => None,
-        Err(why) => Some(why.told()),
-    }
+    read_line(sheet, at).err().map(|why| why.told())
 }
 
 // A rule of lines is broken.

@@ -1,7 +1,7 @@
 use Rattle.std.proofs.Common.{drop, subst}
 use Rattle.lines.specs.Lines.{Answers}
 use Rattle.lines.proofs.Once.{sole}
-use Rattle.lines.proofs.line.read_line.Goals as goal
+use Rattle.lines.proofs.read.read_line.Goals as goal
 
 pub returns : goal.returns
 returns c =
