@@ -6,48 +6,35 @@ use std::alloc::Global;
 use std::test::Fail;
 
 // Two spots and a gate that opens every other step.
-pub fn two_spots(heap: Global) -> Option<Board> {
-    let Ok(pattern) = Pattern::new(2, 2) else {
-        return None;
-    };
-    let Ok(mut draft) = Draft::new(heap, 2) else {
-        return None;
-    };
-    let gate = Gate {
+pub fn two_spots(heap: Global) -> Result<Board, Fail> {
+    let pattern = Pattern::new(2, 2)?;
+    let mut draft = Draft::new(heap, 2)?;
+    draft.add(Gate {
         from: 0,
         to: 1,
         pattern,
-    };
-    match draft.add(gate) {
-        Ok(()) => draft.close().ok(),
-        Err(_) => None,
-    }
+    })?;
+    Ok(draft.close()?)
 }
 
 // A board of so many spots with gates between these, always open.
-fn always_open(heap: Global, spots: u8, pairs: &[(u8, u8)]) -> Option<Board> {
-    let Ok(pattern) = Pattern::new(1, 1) else {
-        return None;
-    };
-    let Ok(mut draft) = Draft::new(heap, spots) else {
-        return None;
-    };
+fn always_open(heap: Global, spots: u8, pairs: &[(u8, u8)]) -> Result<Board, Fail> {
+    let pattern = Pattern::new(1, 1)?;
+    let mut draft = Draft::new(heap, spots)?;
     for pair in pairs {
         let (from, to) = *pair;
-        if draft.add(Gate { from, to, pattern }).is_err() {
-            return None;
-        }
+        draft.add(Gate { from, to, pattern })?;
     }
-    draft.close().ok()
+    Ok(draft.close()?)
 }
 
 // Three spots, each joined with both others.
-pub fn triangle(heap: Global) -> Option<Board> {
+pub fn triangle(heap: Global) -> Result<Board, Fail> {
     always_open(heap, 3, &[(0, 1), (1, 2), (0, 2)])
 }
 
 // Three spots in a row.
-pub fn path(heap: Global) -> Option<Board> {
+pub fn path(heap: Global) -> Result<Board, Fail> {
     always_open(heap, 3, &[(0, 1), (1, 2)])
 }
 
@@ -59,18 +46,13 @@ fn round_leaves(
     marked: usize,
     marks: &[u32],
 ) -> bool {
-    match round_table(arena, table, round) {
-        Ok(made) => made.marked == marked && table.len() == 32 && &table[0..16] == marks,
-        Err(_) => false,
-    }
+    let made = round_table(arena, table, round);
+    made.is_ok_and(|made| made.marked == marked) && table.get(0..16) == Some(marks)
 }
 
 #[test]
 fn two_spots_round_by_round(rt: HostRuntime) -> Result<(), Fail> {
-    let Some(board) = two_spots(rt.alloc()) else {
-        assert!(rt; false);
-        return Ok(());
-    };
+    let board = two_spots(rt.alloc())?;
     let arena = Gated::new(rt.alloc(), board)?;
     let mut table = [7; 32];
     let b = BLANK;

@@ -16,10 +16,8 @@ const WORDS: [u32; 14] = [0, 1, 2, 3, 4, 5, 6, 7, 8, 15, 16, 65535, BLANK, NEVER
 
 // The mark of the place that the move at a position leads to.
 fn mark_after<A: Arena>(arena: &A, table: &[u32], place: usize, position: u32) -> Option<u32> {
-    match arena.move_at(place, position as usize) {
-        Some(to) => table.get(to).copied(),
-        None => None,
-    }
+    let to = arena.move_at(place, position as usize)?;
+    table.get(to).copied()
 }
 
 // Whether a finished table with this one word changed is still so: each mark is the only one, and another move must lead to the same mark.
@@ -40,12 +38,8 @@ fn is_still_so<A: Arena>(arena: &A, table: &[u32], index: usize, word: u32) -> b
 
 // Whether a place has a move to another.
 fn leads_to<A: Arena>(arena: &A, place: usize, other: usize) -> bool {
-    for position in 0..arena.move_count(place).unwrap_or(0) {
-        if arena.move_at(place, position) == Some(other) {
-            return true;
-        }
-    }
-    false
+    let count = arena.move_count(place).unwrap_or(0);
+    (0..count).any(|position| arena.move_at(place, position) == Some(other))
 }
 
 // Whether the checker judges the table with this one word changed as it should: refused, it is at the place of the word or at one that leads there.
@@ -70,12 +64,9 @@ fn is_judged<A: Arena>(arena: &A, table: &mut [u32], index: usize, word: u32) ->
 
 // Whether it judges so whichever word takes the place of one.
 fn is_each_judged<A: Arena>(arena: &A, table: &mut [u32], index: usize) -> bool {
-    for word in WORDS {
-        if !is_judged(arena, table, index, word) {
-            return false;
-        }
-    }
-    true
+    WORDS
+        .iter()
+        .all(|word| is_judged(arena, table, index, *word))
 }
 
 // Whether the finished table of an arena is accepted, and each single change of it is judged as it should be.
@@ -83,20 +74,13 @@ fn is_well_judged<A: Arena>(arena: &A, table: &mut [u32]) -> bool {
     if solve(arena, table).is_err() || judge(arena, table).is_err() {
         return false;
     }
-    for index in 0..table.len() {
-        if !is_each_judged(arena, table, index) {
-            return false;
-        }
-    }
-    true
+    (0..table.len()).all(|index| is_each_judged(arena, table, index))
 }
 
 #[test]
 fn single_changes(rt: HostRuntime) -> Result<(), Fail> {
-    let (Some(chain), Some(stayer)) = (chain(), stayer()) else {
-        assert!(rt; false);
-        return Ok(());
-    };
+    let chain = chain()?;
+    let stayer = stayer()?;
     assert!(rt; is_well_judged(&chain, &mut [7; 6]), "the chain");
     assert!(rt;
         is_well_judged(&stayer, &mut [7; 6]),
@@ -107,10 +91,7 @@ fn single_changes(rt: HostRuntime) -> Result<(), Fail> {
 
 #[test]
 fn single_changes_of_a_board(rt: HostRuntime) -> Result<(), Fail> {
-    let Some(board) = two_spots(rt.alloc()) else {
-        assert!(rt; false);
-        return Ok(());
-    };
+    let board = two_spots(rt.alloc())?;
     let arena = Gated::new(rt.alloc(), board)?;
     assert!(rt; is_well_judged(&arena, &mut [7; 32]));
     Ok(())
@@ -119,10 +100,7 @@ fn single_changes_of_a_board(rt: HostRuntime) -> Result<(), Fail> {
 #[test]
 fn another_count_on_the_board(rt: HostRuntime) -> Result<(), Fail> {
     let heap = rt.alloc();
-    let Some(board) = two_spots(heap) else {
-        assert!(rt; false);
-        return Ok(());
-    };
+    let board = two_spots(heap)?;
     let arena = Gated::new(heap, board)?;
     let mut table = [7; 32];
     assert!(rt; solve(&arena, &mut table).is_ok());
@@ -145,10 +123,9 @@ fn another_count_on_the_board(rt: HostRuntime) -> Result<(), Fail> {
 
 #[test]
 fn unfit_tables(rt: HostRuntime) -> Result<(), Fail> {
-    let (Some(empty), Some(stuck), Some(chain)) = (empty(), stuck(), chain()) else {
-        assert!(rt; false);
-        return Ok(());
-    };
+    let empty = empty()?;
+    let stuck = stuck()?;
+    let chain = chain()?;
     assert_eq!(rt; judge(&empty, &[]), Err(CheckRefusal::Misfit(Unfit::Size)));
     assert_eq!(rt;
         judge(&chain, &[0; 5]),

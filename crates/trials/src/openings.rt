@@ -9,20 +9,11 @@ use std::test::Fail;
 #[test]
 fn two_spots_open(rt: HostRuntime) -> Result<(), Fail> {
     let heap = rt.alloc();
-    let Some(board) = two_spots(heap) else {
-        assert!(rt; false);
-        return Ok(());
-    };
+    let board = two_spots(heap)?;
     let arena = Gated::new(heap, board)?;
     let mut table = [7; 32];
-    let Ok(finished) = solve_board(heap, &arena, &[], &mut table) else {
-        assert!(rt; false);
-        return Ok(());
-    };
-    let Ok(opening) = opening_of(arena.board(), &finished) else {
-        assert!(rt; false);
-        return Ok(());
-    };
+    let finished = solve_board(heap, &arena, &[], &mut table)?;
+    let opening = opening_of(arena.board(), &finished)?;
     assert_eq!(rt; finished.rounds(), 5);
     assert_eq!(rt; finished.looks(), 30);
     assert_eq!(rt; finished.tally().counted, 8);
@@ -42,20 +33,11 @@ fn two_spots_open(rt: HostRuntime) -> Result<(), Fail> {
 #[test]
 fn triangle_ties(rt: HostRuntime) -> Result<(), Fail> {
     let heap = rt.alloc();
-    let Some(board) = triangle(heap) else {
-        assert!(rt; false);
-        return Ok(());
-    };
+    let board = triangle(heap)?;
     let arena = Gated::new(heap, board)?;
     let mut table = [7; 36];
-    let Ok(finished) = solve_board(heap, &arena, &[], &mut table) else {
-        assert!(rt; false);
-        return Ok(());
-    };
-    let Ok(opening) = opening_of(arena.board(), &finished) else {
-        assert!(rt; false);
-        return Ok(());
-    };
+    let finished = solve_board(heap, &arena, &[], &mut table)?;
+    let opening = opening_of(arena.board(), &finished)?;
     assert_eq!(rt; opening.pursuer, 0);
     assert_eq!(rt; opening.runner, 1);
     assert_eq!(rt; opening.mark, 1);
@@ -69,16 +51,10 @@ fn triangle_ties(rt: HostRuntime) -> Result<(), Fail> {
 #[test]
 fn path_ties(rt: HostRuntime) -> Result<(), Fail> {
     let heap = rt.alloc();
-    let Some(board) = path(heap) else {
-        assert!(rt; false);
-        return Ok(());
-    };
+    let board = path(heap)?;
     let arena = Gated::new(heap, board)?;
     let mut table = [7; 36];
-    let Ok(finished) = solve_board(heap, &arena, &[], &mut table) else {
-        assert!(rt; false);
-        return Ok(());
-    };
+    let finished = solve_board(heap, &arena, &[], &mut table)?;
     assert_eq!(rt; reply_to(arena.board(), &finished, 0), Ok(2));
     assert_eq!(rt; reply_to(arena.board(), &finished, 1), Ok(0));
     assert_eq!(rt; reply_to(arena.board(), &finished, 2), Ok(0));
@@ -88,14 +64,9 @@ fn path_ties(rt: HostRuntime) -> Result<(), Fail> {
 #[test]
 fn another_size_is_refused(rt: HostRuntime) -> Result<(), Fail> {
     let mut table = [7; 6];
-    let (Some(board), Some(chain)) = (two_spots(rt.alloc()), chain()) else {
-        assert!(rt; false);
-        return Ok(());
-    };
-    let Ok(finished) = solve_to_read(&chain, &mut table) else {
-        assert!(rt; false);
-        return Ok(());
-    };
+    let board = two_spots(rt.alloc())?;
+    let chain = chain()?;
+    let finished = solve_to_read(&chain, &mut table)?;
     assert!(rt; opening_of(&board, &finished).is_err());
     assert_eq!(rt; reply_to(&board, &finished, 7), Err(OpeningRefusal::Table));
     Ok(())

@@ -11,15 +11,9 @@ use std::test::Fail;
 #[test]
 fn solve_to_read_leaves_the_table(rt: HostRuntime) -> Result<(), Fail> {
     let mut table = [7, 8, 9, 10, 11];
-    let Some(chain) = chain() else {
-        assert!(rt; false);
-        return Ok(());
-    };
-    let Err(why) = solve_to_read(&chain, &mut table) else {
-        assert!(rt; false);
-        return Ok(());
-    };
-    assert_eq!(rt; why, Unfit::Words);
+    let chain = chain()?;
+    let told = solve_to_read(&chain, &mut table).err();
+    assert_eq!(rt; told, Some(Unfit::Words));
     assert!(rt; table == [7, 8, 9, 10, 11]);
     Ok(())
 }
@@ -27,26 +21,17 @@ fn solve_to_read_leaves_the_table(rt: HostRuntime) -> Result<(), Fail> {
 #[test]
 fn solve_board_leaves_the_table(rt: HostRuntime) -> Result<(), Fail> {
     let heap = rt.alloc();
-    let Some(board) = two_spots(heap) else {
-        assert!(rt; false);
-        return Ok(());
-    };
+    let board = two_spots(heap)?;
     let arena = Gated::new(heap, board)?;
     let mut short = [7, 8, 9];
-    let Err(why) = solve_board(heap, &arena, &[1], &mut short) else {
-        assert!(rt; false);
-        return Ok(());
-    };
-    assert_eq!(rt; why, BoardRefusal::Misfit(Unfit::Words));
-    assert_eq!(rt; why.number(), 16);
+    let told = solve_board(heap, &arena, &[1], &mut short).err();
+    assert_eq!(rt; told, Some(BoardRefusal::Misfit(Unfit::Words)));
+    assert_eq!(rt; told.map(|why| why.number()), Some(16));
     assert!(rt; short == [7, 8, 9]);
     let mut table = [7; 32];
-    let Err(why) = solve_board(heap, &arena, &[2], &mut table) else {
-        assert!(rt; false);
-        return Ok(());
-    };
-    assert_eq!(rt; why, BoardRefusal::Traps(TrapRefusal::OffBoard));
-    assert_eq!(rt; why.number(), 21);
+    let told = solve_board(heap, &arena, &[2], &mut table).err();
+    assert_eq!(rt; told, Some(BoardRefusal::Traps(TrapRefusal::OffBoard)));
+    assert_eq!(rt; told.map(|why| why.number()), Some(21));
     assert!(rt; table == [7; 32]);
     Ok(())
 }

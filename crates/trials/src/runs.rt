@@ -8,14 +8,8 @@ use std::test::Fail;
 #[test]
 fn chain_is_solved(rt: HostRuntime) -> Result<(), Fail> {
     let mut table = [7; 6];
-    let Some(chain) = chain() else {
-        assert!(rt; false);
-        return Ok(());
-    };
-    let Ok(solved) = solve(&chain, &mut table) else {
-        assert!(rt; false);
-        return Ok(());
-    };
+    let chain = chain()?;
+    let solved = solve(&chain, &mut table)?;
     assert!(rt; table == [0, 1, 2, NONE, 0, 0]);
     assert_eq!(rt; solved.rounds, 3);
     assert_eq!(rt; solved.looks, 3);
@@ -26,10 +20,9 @@ fn chain_is_solved(rt: HostRuntime) -> Result<(), Fail> {
 #[test]
 fn runs_are_refused(rt: HostRuntime) -> Result<(), Fail> {
     let mut table = [7; 2];
-    let (Some(empty), Some(stuck), Some(chain)) = (empty(), stuck(), chain()) else {
-        assert!(rt; false);
-        return Ok(());
-    };
+    let empty = empty()?;
+    let stuck = stuck()?;
+    let chain = chain()?;
     assert_eq!(rt; can_begin(&empty, &table), Err(Unfit::Size));
     assert_eq!(rt; can_begin(&chain, &table), Err(Unfit::Words));
     assert_eq!(rt; can_begin(&stuck, &table), Err(Unfit::Unsound { place: 0 }));
@@ -44,10 +37,9 @@ fn runs_are_refused(rt: HostRuntime) -> Result<(), Fail> {
 #[test]
 fn refused_begins_touch_nothing(rt: HostRuntime) -> Result<(), Fail> {
     let mut table = [7; 2];
-    let (Some(empty), Some(stuck), Some(chain)) = (empty(), stuck(), chain()) else {
-        assert!(rt; false);
-        return Ok(());
-    };
+    let empty = empty()?;
+    let stuck = stuck()?;
+    let chain = chain()?;
     begin(&empty, &mut table).abandon();
     assert!(rt; table == [7, 7]);
     begin(&chain, &mut table).abandon();
@@ -62,15 +54,10 @@ fn refused_begins_touch_nothing(rt: HostRuntime) -> Result<(), Fail> {
 #[test]
 fn refused_rounds_change_nothing(rt: HostRuntime) -> Result<(), Fail> {
     let mut table = [7; 6];
-    let (Some(empty), Some(stuck), Some(astray), Some(chain)) = (
-        empty(),
-        stuck(),
-        astray(),
-        chain(),
-    ) else {
-        assert!(rt; false);
-        return Ok(());
-    };
+    let empty = empty()?;
+    let stuck = stuck()?;
+    let astray = astray()?;
+    let chain = chain()?;
     let mut run = begin(&chain, &mut table);
     let made = run.round(&chain);
     let told = [run.round(&empty), run.round(&stuck), run.round(&astray)];
@@ -95,10 +82,7 @@ fn refused_rounds_change_nothing(rt: HostRuntime) -> Result<(), Fail> {
 #[test]
 fn finish_waits_for_the_end(rt: HostRuntime) -> Result<(), Fail> {
     let mut table = [7; 6];
-    let Some(chain) = chain() else {
-        assert!(rt; false);
-        return Ok(());
-    };
+    let chain = chain()?;
     let mut run = begin(&chain, &mut table);
     let early = run.can_finish(&chain);
     let first = run.round(&chain);
@@ -124,10 +108,7 @@ fn finish_waits_for_the_end(rt: HostRuntime) -> Result<(), Fail> {
 #[test]
 fn early_finish_abandons(rt: HostRuntime) -> Result<(), Fail> {
     let mut table = [7; 6];
-    let Some(chain) = chain() else {
-        assert!(rt; false);
-        return Ok(());
-    };
+    let chain = chain()?;
     let finished = begin(&chain, &mut table).finish(&chain);
     assert!(rt; !finished.is_accepted());
     assert!(rt; finished.words().is_empty());
@@ -138,10 +119,8 @@ fn early_finish_abandons(rt: HostRuntime) -> Result<(), Fail> {
 #[test]
 fn told_another_arena(rt: HostRuntime) -> Result<(), Fail> {
     let mut table = [7; 6];
-    let (Some(chain), Some(stayer)) = (chain(), stayer()) else {
-        assert!(rt; false);
-        return Ok(());
-    };
+    let chain = chain()?;
+    let stayer = stayer()?;
     let mut run = begin(&chain, &mut table);
     let own = run.round(&chain);
     let other = run.round(&stayer);

@@ -9,10 +9,7 @@ use trap::{TrapRefusal, Trapped};
 
 #[test]
 fn other_bytes_are_refused(rt: HostRuntime) -> Result<(), Fail> {
-    let Some(chain) = chain() else {
-        assert!(rt; false);
-        return Ok(());
-    };
+    let chain = chain()?;
     assert!(rt; matches!(Trapped::new(&chain, &[0; 2]), Err(TrapRefusal::Length)));
     assert!(rt; matches!(Trapped::new(&chain, &[0; 4]), Err(TrapRefusal::Length)));
     assert!(rt;
@@ -26,14 +23,8 @@ fn other_bytes_are_refused(rt: HostRuntime) -> Result<(), Fail> {
 
 #[test]
 fn a_trap_on_the_chain(rt: HostRuntime) -> Result<(), Fail> {
-    let Some(chain) = chain() else {
-        assert!(rt; false);
-        return Ok(());
-    };
-    let Ok(trapped) = Trapped::new(&chain, &[0, 1, 0]) else {
-        assert!(rt; false);
-        return Ok(());
-    };
+    let chain = chain()?;
+    let trapped = Trapped::new(&chain, &[0, 1, 0])?;
     let mut table = [7; 6];
     assert!(rt; solve(&trapped, &mut table).is_ok());
     assert!(rt; table == [0, 0, 1, NONE, NONE, 0]);
@@ -45,23 +36,12 @@ fn a_trap_on_the_chain(rt: HostRuntime) -> Result<(), Fail> {
 #[test]
 fn traps_piled_twice(rt: HostRuntime) -> Result<(), Fail> {
     let heap = rt.alloc();
-    let Some(board) = two_spots(heap) else {
-        assert!(rt; false);
-        return Ok(());
-    };
+    let board = two_spots(heap)?;
     let arena = Gated::new(heap, board)?;
-    let (Ok(low), Ok(high)) = (arena.trap_bytes(heap, &[1]), arena.trap_bytes(heap, &[0])) else {
-        assert!(rt; false);
-        return Ok(());
-    };
-    let Ok(one) = Trapped::new(&arena, low.as_slice()) else {
-        assert!(rt; false);
-        return Ok(());
-    };
-    let Ok(both) = Trapped::new(&one, high.as_slice()) else {
-        assert!(rt; false);
-        return Ok(());
-    };
+    let low = arena.trap_bytes(heap, &[1])?;
+    let high = arena.trap_bytes(heap, &[0])?;
+    let one = Trapped::new(&arena, low.as_slice())?;
+    let both = Trapped::new(&one, high.as_slice())?;
     let mut table = [7; 32];
     assert!(rt; solve(&one, &mut table).is_ok());
     assert!(rt; judge(&one, &table).is_ok());
