@@ -6,7 +6,7 @@ ghost use Rattle.opening.specs.Rows.{Replies};
 ghost use Rattle.solver.specs.Shown.{shown};
 
 use crate::refusal::OpeningRefusal;
-use crate::rows::start_at;
+use crate::rows::Rows;
 use board::Board;
 use marks::tally::Tally;
 use solver::Finished;
@@ -24,14 +24,10 @@ pub struct Opening {
 pub fn opening_of(board: &Board, finished: &Finished) -> Result<Opening, OpeningRefusal>
     ensures { MatchResult result (λ o. SameSize board.now (shown finished.now) × Opens (spots_of board.now) (shown finished.now) o) (λ e. (e ≡ OpeningRefusal.Table) × Cause board.now (shown finished.now) 0 e) }
 {
-    let words = finished.words();
-    if words.len() != 2 * board.places() as usize {
-        return Err(OpeningRefusal::Table);
-    }
-    let spots = board.spots() as usize;
-    let mut best = start_at(words, spots, 0);
-    for pursuer in 1..spots {
-        let next = start_at(words, spots, pursuer);
+    let rows = Rows::of(board, finished.words())?;
+    let mut best = rows.start_at(0);
+    for pursuer in 1..rows.spots() {
+        let next = rows.start_at(pursuer);
         if next.mark < best.mark {
             best = next;
         }
@@ -43,13 +39,9 @@ pub fn opening_of(board: &Board, finished: &Finished) -> Result<Opening, Opening
 pub fn reply_to(board: &Board, finished: &Finished, spot: usize) -> Result<usize, OpeningRefusal>
     ensures { MatchResult result (λ v. SameSize board.now (shown finished.now) × (spot < spots_of board.now) × ((m : ℕ) × Replies (spots_of board.now) (shown finished.now) spot m v)) (Cause board.now (shown finished.now) spot) }
 {
-    let words = finished.words();
-    if words.len() != 2 * board.places() as usize {
-        return Err(OpeningRefusal::Table);
-    }
-    let spots = board.spots() as usize;
-    if spot >= spots {
+    let rows = Rows::of(board, finished.words())?;
+    if spot >= rows.spots() {
         return Err(OpeningRefusal::Spot);
     }
-    Ok(start_at(words, spots, spot).runner)
+    Ok(rows.start_at(spot).runner)
 }

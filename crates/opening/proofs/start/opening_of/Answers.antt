@@ -1,46 +1,29 @@
-use Rattle.std.proofs.Common.{◌≡◌, ℕ, ◌+◌, ◌≤◌, List, length, sym, ap, ◌∙◌, subst, arith}
+use Rattle.std.proofs.Common.{◌≡◌, ℕ, ◌+◌, ◌≤◌, List, sym, ◌∙◌, subst, arith}
+use Rattle.solver.specs.Shown.{shown}
 use Rattle.opening.specs.declared.start.Opening.{Opening}
 use Rattle.opening.specs.Openings.{OpensAmong}
-use Rattle.opening.proofs.Least.{first_start, next_start, same_start}
-use Rattle.opening.proofs.Parts.{rows_fit}
+use Rattle.opening.specs.Refused.{SameSize}
+use Rattle.opening.proofs.Least.{next_start, same_start}
 use Rattle.opening.proofs.start.opening_of.Goals as goal
 use Rattle.opening.proofs.start.opening_of.Goals.{then-next-best, else-next-best}
 
-pub start_at-best-requires : goal.start_at-best-requires
-start_at-best-requires c =
-    let b = c.args.board.now in
-    let n = c.spots-spots.ensures in
-    let fit = rows_fit b.spots b.period _ b.clock.0 (omega (arith, c.if-words-places.false, c.places.ensures)) in
-    record { some = omega (arith, b.sized.0); few = omega (arith, b.sized.1); spot = omega (arith, b.sized.0); long = rw n fit }
-
-pub loop-pursuer-init : goal.loop-pursuer-init
-loop-pursuer-init c =
-    first_start _ _ _ c.start_at-best.ensures
-
-pub start_at-next-requires : goal.start_at-next-requires
-start_at-next-requires c =
-    let b = c.args.board.now in
-    let n = c.spots-spots.ensures in
-    let fit = rows_fit b.spots b.period _ b.clock.0 (omega (arith, c.if-words-places.false, c.places.ensures)) in
-    record { some = omega (arith, b.sized.0); few = omega (arith, b.sized.1); spot = c.loop-pursuer-test.true; long = rw n fit }
-
 pub loop-pursuer-preserved : goal.loop-pursuer-preserved
 loop-pursuer-preserved c =
-    let n : ℕ = c.spots-spots.result in
+    let rows = c.in_ok-rows.rows in
     let told = c.start_at-next.ensures in
     elim c.if-next-best.branch [
-      | then-next-best w ↦ subst (λ (o : Opening). OpensAmong (c.loop-pursuer.pursuer + 1) n c.words-words.result.now o) (sym w.best-is) (next_start _ _ _ _ _ c.loop-pursuer.invariant told w.if-next-best.true)
-      | else-next-best w ↦ subst (λ (o : Opening). OpensAmong (c.loop-pursuer.pursuer + 1) n c.words-words.result.now o) (sym w.best-is) (same_start _ _ _ _ _ c.loop-pursuer.invariant told w.if-next-best.false)
+      | then-next-best w ↦ subst (λ (o : Opening). OpensAmong (c.loop-pursuer.pursuer + 1) rows.spots rows.marks.now o) (sym w.best-is) (next_start _ _ _ _ _ c.loop-pursuer.invariant told w.if-next-best.true)
+      | else-next-best w ↦ subst (λ (o : Opening). OpensAmong (c.loop-pursuer.pursuer + 1) rows.spots rows.marks.now o) (sym w.best-is) (same_start _ _ _ _ _ c.loop-pursuer.invariant told w.if-next-best.false)
     ]
 
 pub returns : goal.returns
 returns c =
-    let b = c.args.board.now in
-    let n : c.spots-spots.result ≡ b.spots = c.spots-spots.ensures in
-    let some : 1 ≤ c.spots-spots.result = omega (arith, b.sized.0) in
-    let end : c.loop-pursuer.pursuer ≡ b.spots = omega (arith, c.loop-pursuer.auto.pursuer-end some) in
-    let opens = subst (λ (k : ℕ). OpensAmong k c.spots-spots.result c.words-words.result.now c.loop-pursuer.best) end c.loop-pursuer.invariant in
-    let words = c.words-words.ensures in (
-      sym (ap length words) ∙ omega (arith, c.if-words-places.false, c.places.ensures),
-      subst (λ (W : List ℕ). OpensAmong b.spots b.spots W c.loop-pursuer.best) words (subst (λ (k : ℕ). OpensAmong b.spots k c.words-words.result.now c.loop-pursuer.best) n opens),
-    )
+    let rows = c.in_ok-rows.rows in
+    let told = c.in_ok-rows.ensures in
+    let best = c.loop-pursuer.best in
+    let words : List ℕ = shown c.args.finished.now in
+    let some : 1 ≤ c.spots-pursuer-end.result = omega (arith, c.spots-pursuer-end.ensures, rows.some) in
+    let end : c.loop-pursuer.pursuer ≡ rows.spots = omega (arith, c.loop-pursuer.auto.pursuer-end some, c.loop-pursuer-test.false, c.spots-pursuer-end.ensures) in
+    let opens = subst (λ (k : ℕ). OpensAmong k rows.spots rows.marks.now best) end c.loop-pursuer.invariant in
+    let marks = subst (λ (W : List ℕ). OpensAmong rows.spots rows.spots W best) (told.1 ∙ c.words.ensures) opens in
+    (subst (SameSize c.args.board.now) c.words.ensures told.0, subst (λ (n : ℕ). OpensAmong n n words best) told.2 marks)
