@@ -1,6 +1,7 @@
 ghost use Rattle.pursuit.specs.Claim.{WholeClaim};
 ghost use Rattle.pursuit.specs.Refused.{BoardCause};
 ghost use Rattle.pursuit.specs.Solved.{BoardSolved};
+ghost use Rattle.solver.specs.Shown.{shown};
 ghost use Rattle.std.specs.Prelude.{◌≡◌, true, length, MatchResult};
 
 use crate::refusal::BoardRefusal;
@@ -18,7 +19,7 @@ pub fn solve_board<'a>(
     table: &'a mut [u32],
 ) -> Result<Finished<'a>, BoardRefusal>
     ensures claim { WholeClaim }
-    ensures solved { MatchResult result (λ f. (f.accepted ≡ true) × (length f.table.now ≡ length table.old) × BoardSolved arena.now.board traps.now f.made.rounds f.made.looks f.table.now) (BoardCause arena.now.board traps.now (length table.old)) }
+    ensures solved { MatchResult result (λ f. (f.accepted ≡ true) × (length (shown f) ≡ length table.old) × BoardSolved arena.now.board traps.now f.made.rounds f.made.looks (shown f)) (BoardCause arena.now.board traps.now (length table.old)) }
 {
     let bytes = match arena.trap_bytes(heap, traps) {
         Ok(bytes) => bytes,

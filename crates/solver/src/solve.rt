@@ -3,6 +3,7 @@ ghost use Rattle.arena.specs.Unfit.{Cause, Fits};
 ghost use Rattle.marks.specs.Tallies.{Tallied};
 ghost use Rattle.marks.specs.Unique.{TheOne};
 ghost use Rattle.solver.specs.Reached.{Reached};
+ghost use Rattle.solver.specs.Shown.{shown};
 ghost use Rattle.solver.specs.State.{state_of};
 ghost use Rattle.solver.specs.Whole.{Whole};
 
@@ -48,7 +49,7 @@ pub fn solve<A: Arena>(arena: &A, table: &mut [u32]) -> Result<Solved, Unfit>
 
 // The same, with the table given back as a finished one, to read.
 pub fn solve_to_read<'a, A: Arena>(arena: &A, table: &'a mut [u32]) -> Result<Finished<'a>, Unfit>
-    ensures { MatchResult result (λ f. Fits (A.Arena.game arena.now) (length table.old) × (f.accepted ≡ true) × (length f.table.now ≡ length table.old) × Whole (A.Arena.game arena.now) f.made.rounds f.made.looks f.table.now) (Cause (A.Arena.game arena.now) (length table.old)) }
+    ensures { MatchResult result (λ f. Fits (A.Arena.game arena.now) (length table.old) × (f.accepted ≡ true) × (length (shown f) ≡ length table.old) × Whole (A.Arena.game arena.now) f.made.rounds f.made.looks (shown f)) (Cause (A.Arena.game arena.now) (length table.old)) }
 {
     can_begin(arena, table)?;
     let run = settled_run(arena, table);

@@ -1,4 +1,4 @@
-use Rattle.std.proofs.Common.{length, ap, arith}
+use Rattle.std.proofs.Common.{length, refl, ap, arith}
 use Rattle.arena.specs.Game.{Game}
 use Rattle.solver.proofs.Ending.{live_words, words_are, settled_ends}
 use Rattle.solver.proofs.Reaching.{reached_holds}
@@ -14,4 +14,4 @@ returns g c =
     let (accepted, whole) = settled_ends G run _ _ ended reached c.settled_run-run.ensures.settled in
     let fits = (reached_holds G _ reached).fits in
     let words = ap length (words_are run (live_words G run fits)) in
-    (fit, accepted, omega (arith, ended.long, fit.two_each, fits.two_each), rw c.finish.ensures.counted whole)
+    rw (accepted, c.finish.ensures.counted) (fit, refl, omega (arith, ended.long, fit.two_each, fits.two_each), whole)
