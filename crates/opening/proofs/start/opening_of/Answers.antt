@@ -10,8 +10,8 @@ pub start_at-best-requires : goal.start_at-best-requires
 start_at-best-requires c =
     let b = c.args.board.now in
     let n = c.spots-spots.ensures in
-    let fit = rows_fit b.spots b.period _ b.clock.0 (omega (arith, c.if-words-places.false, c.places.ensures)) in
-    record { some = omega (arith, b.sized.0); few = omega (arith, b.sized.1); spot = omega (arith, b.sized.0); long = rw n fit }
+    let fit = rows_fit b.draft.spots b.period _ b.clock.0 (omega (arith, c.if-words-places.false, c.places.ensures)) in
+    record { some = omega (arith, b.draft.sized.0); few = omega (arith, b.draft.sized.1); spot = omega (arith, b.draft.sized.0); long = rw n fit }
 
 pub loop-pursuer-init : goal.loop-pursuer-init
 loop-pursuer-init c =
@@ -21,8 +21,8 @@ pub start_at-next-requires : goal.start_at-next-requires
 start_at-next-requires c =
     let b = c.args.board.now in
     let n = c.spots-spots.ensures in
-    let fit = rows_fit b.spots b.period _ b.clock.0 (omega (arith, c.if-words-places.false, c.places.ensures)) in
-    record { some = omega (arith, b.sized.0); few = omega (arith, b.sized.1); spot = c.loop-pursuer-test.true; long = rw n fit }
+    let fit = rows_fit b.draft.spots b.period _ b.clock.0 (omega (arith, c.if-words-places.false, c.places.ensures)) in
+    record { some = omega (arith, b.draft.sized.0); few = omega (arith, b.draft.sized.1); spot = c.loop-pursuer-test.true; long = rw n fit }
 
 pub loop-pursuer-preserved : goal.loop-pursuer-preserved
 loop-pursuer-preserved c =
@@ -36,11 +36,11 @@ loop-pursuer-preserved c =
 pub returns : goal.returns
 returns c =
     let b = c.args.board.now in
-    let n : c.spots-spots.result ≡ b.spots = c.spots-spots.ensures in
-    let some : 1 ≤ c.spots-spots.result = omega (arith, b.sized.0) in
-    let end : c.loop-pursuer.pursuer ≡ b.spots = omega (arith, c.loop-pursuer.auto.pursuer-end some) in
+    let n : c.spots-spots.result ≡ b.draft.spots = c.spots-spots.ensures in
+    let some : 1 ≤ c.spots-spots.result = omega (arith, b.draft.sized.0) in
+    let end : c.loop-pursuer.pursuer ≡ b.draft.spots = omega (arith, c.loop-pursuer.auto.pursuer-end some) in
     let opens = subst (λ (k : ℕ). OpensAmong k c.spots-spots.result c.words-words.result.now c.loop-pursuer.best) end c.loop-pursuer.invariant in
     let words = c.words-words.ensures in (
       sym (ap length words) ∙ omega (arith, c.if-words-places.false, c.places.ensures),
-      subst (λ (W : List ℕ). OpensAmong b.spots b.spots W c.loop-pursuer.best) words (subst (λ (k : ℕ). OpensAmong b.spots k c.words-words.result.now c.loop-pursuer.best) n opens),
+      subst (λ (W : List ℕ). OpensAmong b.draft.spots b.draft.spots W c.loop-pursuer.best) words (subst (λ (k : ℕ). OpensAmong b.draft.spots k c.words-words.result.now c.loop-pursuer.best) n opens),
     )
