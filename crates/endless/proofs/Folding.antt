@@ -56,7 +56,7 @@ module _ (b : Board) where
   gates = gates_of b
 
   some : 0 < n
-  some = b.sized.0
+  some = b.draft.sized.0
 
   runs : 0 < T
   runs = b.clock.0
@@ -120,7 +120,7 @@ module _ (b : Board) where
         ∙ ap (λ y. moves_by n (next T) (exits_at gates) s (reached T t) c y) runner_same
         ∙ ap (map f) (exits_same t spot)
         ∙ map_same f (λ e. fold b (g e)) (exits_at gates t spot)
-        (λ e i. fold_moved s t c r e c_in r_in (exit_below n gates b.lawful.1 t spot e (mover_in n s c r c_in r_in) i))
+        (λ e i. fold_moved s t c r e c_in r_in (exit_below n gates b.draft.lawful.1 t spot e (mover_in n s c r c_in r_in) i))
         ∙ sym (map_twice (fold b) g (exits_at gates t spot))
 
     fold_below : fold b x < places n T

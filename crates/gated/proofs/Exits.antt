@@ -15,7 +15,7 @@ joins_to : (n : ℕ) (g : Gate) → joins n g ≡ true → g.to < n
 joins_to n g h = grind (arith, nat_tests)
 
 -- what holds of no far end, and of both ends of a gate, holds of its far end from any spot
-far_by : (P : List ℕ → Type 0) (t spot : ℕ) (g : Gate) → P [] → P (g.to ∷ []) → P (g.from ∷ []) → P (far t spot g)
+pub far_by : (P : List ℕ → Type 0) (t spot : ℕ) (g : Gate) → P [] → P (g.to ∷ []) → P (g.from ∷ []) → P (far t spot g)
 far_by P t spot g none to from =
     cond_both (is_open g t) (across spot g) [] P
     (λ _. cond_both (eqb spot g.from) (g.to ∷ []) (cond (eqb spot g.to) (g.from ∷ []) []) P (λ _. to)

@@ -2,6 +2,5 @@ pub mod Numbers
 pub mod Exits
 pub mod Rows
 pub mod Built
-pub mod Asked
 pub mod Sounds
 pub mod Trapping

@@ -3,7 +3,11 @@ use Rattle.std.proofs.Common.{◌≡◌, ℕ, ◌+◌, ◌*◌, ◌/◌, ◌%◌
 use Rattle.std.proofs.lemmas.Nat.{div-mul-add, mod-mul-add, div_below, mod_below, div-add-mod', mul-add-lt}
 use Rattle.arena.specs.declared.player.Player.{Player}
 use Rattle.arena.specs.declared.player.Player.TheVariants.{Runner, Pursuer}
+use Rattle.board.specs.declared.board.Board.{Board}
+use Rattle.board.specs.Boards.{spots_of, period_of}
 use Rattle.board.specs.Gates.{places}
+use Rattle.gated.specs.declared.parts.Parts.{Parts}
+use Rattle.gated.specs.Parted.{OnBoard, Parted}
 use Rattle.board.proofs.Limits.{before}
 use Rattle.gated.specs.Places.{number, runner_of, pursuer_of, turn_of, step_of, next, mover, moved}
 
@@ -57,3 +61,11 @@ moved_below n T Runner t c r e run h c_in r_in e-in = number_below n (next T t) 
 -- no clock is longer than there are places
 pub period_small : (n T : ℕ) → 0 < n → places n T ≤ 1048576 → T ≤ 1048576
 period_small n T some h = omega (arith, before (T * 2) n 1048576 some (before (T * 2 * n) n 1048576 some h))
+
+-- the parts of a place are on the board
+pub on_board : (b : Board) (p : ℕ) (q : Parts) → Parted (spots_of b) (period_of b) p q → OnBoard b q
+on_board b p q at = record {
+  step = omega (arith, at.step, step_in (spots_of b) (period_of b) p b.draft.sized.0 at.on_board);
+  pursuer = rw at.pursuer (mod_below _ (spots_of b) b.draft.sized.0);
+  runner = rw at.runner (mod_below _ (spots_of b) b.draft.sized.0);
+}

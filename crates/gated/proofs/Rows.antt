@@ -1,11 +1,18 @@
 -- Where a row stands among the rows.
-use Rattle.std.proofs.Common.{◌≡◌, ℕ, zero, suc, ◌+◌, ◌*◌, ◌%◌, ◌<◌, ◌⊎◌, List, [], ◌++◌, length, get_or, sym, refl, ap, ◌∙◌, inl, inr, mul_comm, eq-or-lt_of_le, add-one, arith, length-append}
-use Rattle.std.proofs.lemmas.List.{append-nil, append_assoc, get_or-append-add, get_or_append_left, get_or_read_under}
+use Rattle.std.proofs.Common.{vec_items, ◌-◌, ◌≤◌, take, drop, ◌≡◌, ℕ, zero, suc, ◌+◌, ◌*◌, ◌%◌, ◌<◌, ◌⊎◌, List, [], ◌++◌, length, get_or, sym, refl, ap, ◌∙◌, inl, inr, mul_comm, eq-or-lt_of_le, add-one, arith, length-append}
+use Rattle.std.proofs.lemmas.List.{append-nil, append_assoc, get_or_read_under}
 use Rattle.std.proofs.lemmas.Nat.{div-mul-add, mod-mul-add, mul-add-lt}
 use Rattle.std.proofs.lemmas.List.FromFn.{length-map-range_with_len, get_or-map-range_with_len}
+use Rattle.std.proofs.Math.Seq.{drop-append_seam, take-append_seam}
 use Rattle.board.specs.declared.gate.Gate.{Gate}
+use Rattle.gated.specs.declared.gated.Gated.{Gated}
+use Rattle.gated.specs.Boarded.{board_of}
+use Rattle.board.specs.Boards.{spots_of, period_of, gates_of}
+use Rattle.gated.specs.declared.parts.Parts.{Parts}
+use Rattle.gated.specs.Parted.{OnBoard, spot_of}
+use Rattle.gated.proofs.Numbers.{mover_in}
 use Rattle.gated.specs.Exits.{exits_at}
-use Rattle.gated.specs.Index.{row, rows, Listed}
+use Rattle.gated.specs.Index.{row, rows}
 
 pub row_is : (T : ℕ) (gates : List Gate) (t spot : ℕ) → t < T → row T gates (spot * T + t) ≡ exits_at gates t spot
 row_is T gates t spot h =
@@ -43,46 +50,70 @@ module _ (n T t spot : ℕ) (gates : List Gate) (t-in : t < T) (spot_in : spot <
       let s = rows_split T gates (n * T) (spot * T + t) row_in in
       (s.0, s.1 ∙ ap (λ x. rows T gates (spot * T + t) ++ (x ++ s.0)) (row_is T gates t spot t-in))
 
-  exit_in : (j : ℕ) → j < length (exits_at gates t spot) → length (rows T gates (spot * T + t)) + j < length (rows T gates (n * T))
-  exit_in j h =
-      let s = row_stands in
-      let e = ap length s.1 ∙ length-append (rows T gates (spot * T + t)) (exits_at gates t spot ++ s.0) in
-      omega (arith, e, length-append (exits_at gates t spot) s.0)
+-- what is read of an arena's index: the row of the spot of the player to move, at the clock's step
+module _ (a : Gated) (q : Parts) (on : OnBoard (board_of a) q) (spot T : ℕ) (stands : spot ≡ spot_of q) (clock : T ≡ period_of (board_of a)) where
+  abbrev n : ℕ
+  n = spots_of (board_of a)
 
-  exit_is : (j : ℕ) → j < length (exits_at gates t spot)
-      → get_or (rows T gates (n * T)) (length (rows T gates (spot * T + t)) + j) 0 ≡ get_or (exits_at gates t spot) j 0
-  exit_is j h =
-      let s = row_stands in
-      ap (λ x. get_or x (length (rows T gates (spot * T + t)) + j) 0) s.1
-      ∙ get_or-append-add (rows T gates (spot * T + t)) (exits_at gates t spot ++ s.0) j 0
-      ∙ get_or_append_left (exits_at gates t spot) s.0 0 j h
+  abbrev steps : ℕ
+  steps = period_of (board_of a)
 
--- what is read of an index of n spots, at row k: the row of a spot at a step t
-module _ (n T : ℕ) (gates : List Gate) (exits starts : List ℕ) (listed : Listed T gates (n * T) exits starts) (t spot k : ℕ) (t-in : t < T) (spot_in : spot < n) (at : k ≡ spot * T + t) where
-  many : length starts ≡ n * T + 1
-  many = ap length listed.1 ∙ length-map-range_with_len (λ j. length (rows T gates j)) 0 (n * T + 1)
+  abbrev gates : List Gate
+  gates = gates_of (board_of a)
 
-  pub start_in : k + 1 < length starts
-  start_in = omega (arith, many, row_in n T t spot gates t-in spot_in)
+  abbrev exits : List ℕ
+  exits = vec_items a.index.exits
 
-  start_is : (j x : ℕ) → j < n * T + 1 → x ≡ get_or starts j x → x ≡ length (rows T gates j)
+  abbrev starts : List ℕ
+  starts = vec_items a.index.starts
+
+  abbrev rows_to : ℕ → List ℕ
+  rows_to = rows steps gates
+
+  spot_in : spot_of q < n
+  spot_in = mover_in n q.turn q.pursuer q.runner on.pursuer on.runner
+
+  at : spot * T + q.step ≡ spot_of q * steps + q.step
+  at = ap (λ x. x * T + q.step) stands ∙ ap (λ x. spot_of q * x + q.step) clock
+
+  below : spot * T + q.step < n * steps
+  below = omega (arith, at, row_in n steps q.step (spot_of q) gates on.step spot_in)
+
+  many : length starts ≡ n * steps + 1
+  many = ap length a.listed.1 ∙ length-map-range_with_len (λ j. length (rows_to j)) 0 (n * steps + 1)
+
+  pub start_in : spot * T + q.step + 1 < length starts
+  start_in = omega (arith, many, below)
+
+  start_is : (j x : ℕ) → j < n * steps + 1 → x ≡ get_or starts j x → x ≡ length (rows_to j)
   start_is j x h r =
-      get_or_read_under starts j (length starts) x 0 r (omega (arith, many)) refl ∙ ap (λ xs. get_or xs j 0) listed.1
-      ∙ get_or-map-range_with_len (λ i. length (rows T gates i)) 0 (n * T + 1) j j 0 h (omega arith)
+      get_or_read_under starts j (length starts) x 0 r (omega (arith, many)) refl ∙ ap (λ xs. get_or xs j 0) a.listed.1
+      ∙ get_or-map-range_with_len (λ i. length (rows_to i)) 0 (n * steps + 1) j j 0 h (omega arith)
 
-  starts_here : (x : ℕ) → x ≡ get_or starts k x → x ≡ length (rows T gates (spot * T + t))
-  starts_here x r = start_is k x (omega (arith, row_in n T t spot gates t-in spot_in)) r ∙ ap (λ j. length (rows T gates j)) at
+  module _ (x y : ℕ) (r : x ≡ get_or starts (spot * T + q.step) x) (s : y ≡ get_or starts (spot * T + q.step + 1) y) where
+    abbrev exits_here : List ℕ
+    exits_here = exits_at gates q.step (spot_of q)
 
-  pub count_read : (x y : ℕ) → x ≡ get_or starts k x → y ≡ get_or starts (k + 1) y → y ≡ x + length (exits_at gates t spot)
-  count_read x y r q =
-      start_is (k + 1) y (omega (arith, row_in n T t spot gates t-in spot_in)) q ∙ ap (λ j. length (rows T gates (j + 1))) at ∙ row_ends n T t spot gates t-in spot_in
-      ∙ ap (λ z. z + length (exits_at gates t spot)) (sym (starts_here x r))
+    starts_here : x ≡ length (rows_to (spot_of q * steps + q.step))
+    starts_here = start_is (spot * T + q.step) x (omega (arith, below)) r ∙ ap (λ j. length (rows_to j)) at
 
-  pub exit_read_in : (x j : ℕ) → x ≡ get_or starts k x → j < length (exits_at gates t spot) → x + j < length exits
-  exit_read_in x j r h = omega (arith, starts_here x r, exit_in n T t spot gates t-in spot_in j h, ap length listed.0)
+    ends_here : y ≡ x + length exits_here
+    ends_here =
+        start_is (spot * T + q.step + 1) y (omega (arith, below)) s ∙ ap (λ j. length (rows_to (j + 1))) at
+        ∙ row_ends n steps q.step (spot_of q) gates on.step spot_in
+        ∙ ap (λ z. z + length exits_here) (sym starts_here)
 
-  pub exit_read : (x j v : ℕ) → x ≡ get_or starts k x → j < length (exits_at gates t spot) → v ≡ get_or exits (x + j) v → v ≡ get_or (exits_at gates t spot) j 0
-  exit_read x j v r h q =
-      get_or_read_under exits (x + j) (length exits) v 0 q (exit_read_in x j r h) refl
-      ∙ ap (λ xs. get_or xs (x + j) 0) listed.0 ∙ ap (λ y. get_or (rows T gates (n * T)) (y + j) 0) (starts_here x r)
-      ∙ exit_is n T t spot gates t-in spot_in j h
+    pub row_within : (x ≤ y) × (y ≤ length exits)
+    row_within =
+        let w = row_stands n steps q.step (spot_of q) gates on.step spot_in in
+        let e = ap length (a.listed.0 ∙ w.1) ∙ length-append (rows_to (spot_of q * steps + q.step)) (exits_here ++ w.0) in
+        (omega (arith, ends_here), omega (arith, ends_here, starts_here, e, length-append exits_here w.0))
+
+    pub row_read : take (y - x) (drop x exits) ≡ exits_here
+    row_read =
+        let w = row_stands n steps q.step (spot_of q) gates on.step spot_in in
+        let long : y - x ≡ length exits_here = omega (arith, ends_here) in
+        ap (λ xs. take (y - x) (drop x xs)) (a.listed.0 ∙ w.1)
+        ∙ ap (λ z. take (y - x) (drop z (rows_to (spot_of q * steps + q.step) ++ (exits_here ++ w.0)))) starts_here
+        ∙ ap (take (y - x)) (drop-append_seam (rows_to (spot_of q * steps + q.step)) (exits_here ++ w.0))
+        ∙ ap (λ z. take z (exits_here ++ w.0)) long ∙ take-append_seam exits_here w.0

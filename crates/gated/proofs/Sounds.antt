@@ -44,8 +44,8 @@ module _ (n T : ℕ) (gates : List Gate) (some : 0 < n) (runs : 0 < T) (few : le
 
 pub sound : (b : Board) → Sound (game_of b)
 sound b = (
-  (places_pos (spots_of b) (period_of b) b.sized.0 b.clock.0, b.small),
-  sound_at (spots_of b) (period_of b) (gates_of b) b.sized.0 b.clock.0 b.lawful.0 b.lawful.1,
+  (places_pos (spots_of b) (period_of b) b.draft.sized.0 b.clock.0, b.small),
+  sound_at (spots_of b) (period_of b) (gates_of b) b.draft.sized.0 b.clock.0 b.draft.lawful.0 b.draft.lawful.1,
 )
 
 pub inverse : (n T : ℕ) → 0 < n → Inverse n T

@@ -31,6 +31,11 @@ step_of n p = p / n / n / 2
 abbrev pub player : ℕ → Player
 player s = cond (s == 0) Pursuer Runner
 
+-- the turn of a player
+abbrev pub turn_number : Player → ℕ
+turn_number Pursuer = 0
+turn_number Runner = 1
+
 -- the next step of a clock of T steps
 abbrev pub next : ℕ → ℕ → ℕ
 next T t = (t + 1) % T

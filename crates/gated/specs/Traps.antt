@@ -1,18 +1,16 @@
 -- Traps on spots: a runner who stands on one is caught.
-use Rattle.std.specs.Prelude.{ℕ, Bool, true, false, cond, ◌&&◌, ◌||◌, List, [], ◌∷◌, map, ◌==◌, nat_lt}
-use Rattle.std.specs.List.{range_with_len}
+use Rattle.std.specs.Prelude.{ℕ, Bool, cond, List, map, ◌==◌, nat_lt}
+use Rattle.std.specs.List.{range_with_len, list_all, list_any}
 use Rattle.board.specs.Gates.{places}
 use Rattle.gated.specs.Places.{runner_of}
 
 -- whether a spot is trapped
 abbrev pub is_trap : List ℕ → ℕ → Bool
-is_trap [] v = false
-is_trap (t ∷ ts) v = t == v || is_trap ts v
+is_trap traps v = list_any (λ t. t == v) traps
 
 -- whether each trap is on a spot below n
 abbrev pub all_below : ℕ → List ℕ → Bool
-all_below n [] = true
-all_below n (t ∷ ts) = nat_lt t n && all_below n ts
+all_below n traps = list_all (λ t. nat_lt t n) traps
 
 -- the byte of a spot: 1 if it is trapped, else 0
 abbrev pub spot_byte : List ℕ → ℕ → ℕ

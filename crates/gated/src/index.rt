@@ -19,13 +19,11 @@ fn is_end(gate: &Gate, spot: u8) -> bool
 fn gates_at(heap: Global, gates: &[Gate], spot: u8) -> Result<Vec<Gate>, AllocError>
     ensures { IfOk result (λ v. v.items ≡ filter (touches spot) gates.now) }
 {
-    let mut near = Vec::new(heap);
-    for gate in gates {
-        if is_end(gate, spot) {
-            near.push(*gate)?;
-        }
-    }
-    Ok(near)
+    gates
+        .iter()
+        .copied()
+        .filter(|gate| is_end(gate, spot))
+        .collect(heap)
 }
 
 // The far end of a gate from a spot, if it is open and the spot is one of its ends.
@@ -48,15 +46,11 @@ fn push_exits(exits: &mut Vec<u8>, gates: &[Gate], step: u32, spot: u8) -> Resul
     ensures { OnOk result (exits.new.items ≡ exits.old.items ++ exits_at gates.now step spot) }
 {
     exits.push(spot)?;
-    for gate in gates {
-        if let Some(to) = far_end(gate, step, spot) {
-            exits.push(to)?;
-        }
-    }
-    Ok(())
+    exits.extend(gates.iter().filter_map(|gate| far_end(gate, step, spot)))
 }
 
-// The exits of every spot at every step, a row for each, and where each row starts.
+// The exits of every spot at every step, a row for each, and where each row starts. A `Vec` for each row was tried: at
+// 262144 rows it takes 14 MB, not 3.5, and a look at a row takes twice the time.
 #[derive(Drop)]
 pub(crate) struct Index {
     pub(crate) exits: Vec<u8>,

@@ -1,5 +1,9 @@
 ghost use Rattle.gated.specs.TrapRefused.{told};
+ghost use Rattle.gated.specs.declared.refusal.TrapRefusal.TheVariants.{NoMemory};
+ghost use Rattle.std.specs.Option.{option_map};
 ghost use Rattle.std.specs.Prelude.{◌≡◌};
+
+use std::alloc::AllocError;
 
 // Why traps are not laid.
 #[derive(Clone, Copy, PartialEq, Eq, Debug)]
@@ -11,13 +15,22 @@ pub enum TrapRefusal {
 }
 
 impl TrapRefusal {
-    // The refusal's number; 0 for want of memory, which has none.
-    pub fn number(self) -> u8
-        ensures { result ≡ (told self).0 }
+    // The refusal's number; want of memory has none.
+    pub fn number(self) -> Option<u8>
+        ensures { result ≡ option_map (λ t. t.0) (told self) }
     {
         match self {
-            TrapRefusal::OffBoard => 21,
-            TrapRefusal::NoMemory => 0,
+            TrapRefusal::OffBoard => Some(21),
+            TrapRefusal::NoMemory => None,
         }
+    }
+}
+
+// Bytes that find no memory are refused for want of it.
+impl From<AllocError> for TrapRefusal {
+    ghost from_gives = { λ _ e. e ≡ NoMemory };
+
+    fn from(_error: AllocError) -> TrapRefusal {
+        TrapRefusal::NoMemory
     }
 }

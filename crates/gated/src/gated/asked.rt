@@ -13,36 +13,22 @@ impl Arena for Gated {
     }
 
     fn owner(&self, place: usize) -> Option<Player> {
-        match self.parts(place) {
-            Some(at) => Some(at.turn),
-            None => None,
-        }
+        self.parts(place).map(|at| at.turn)
     }
 
     fn is_capture(&self, place: usize) -> Option<bool> {
-        match self.parts(place) {
-            Some(at) => Some(at.pursuer == at.runner),
-            None => None,
-        }
+        self.parts(place).map(|at| at.pursuer == at.runner)
     }
 
     fn move_count(&self, place: usize) -> Option<usize> {
-        match self.parts(place) {
-            Some(at) => Some(self.exit_count(at.step, at.mover())),
-            None => None,
-        }
+        let at = self.parts(place)?;
+        Some(self.exits(&at).len())
     }
 
     fn move_at(&self, place: usize, position: usize) -> Option<usize> {
-        let Some(at) = self.parts(place) else {
-            return None;
-        };
-        let spot = at.mover();
-        if position >= self.exit_count(at.step, spot) {
-            return None;
-        }
-        let to = self.exit_at(at.step, spot, position);
-        Some(self.moved(&at, to))
+        let at = self.parts(place)?;
+        let to = *self.exits(&at).get(position)?;
+        Some(self.moved(&at, to as usize))
     }
 
     // A board is sound by its own rules.

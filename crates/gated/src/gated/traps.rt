@@ -1,7 +1,7 @@
 ghost use Rattle.board.specs.Boards.{period_of, spots_of};
 ghost use Rattle.gated.specs.Boarded.{board_of};
 ghost use Rattle.gated.specs.TrapRefused.{Cause};
-ghost use Rattle.gated.specs.Traps.{all_below, is_trap, spot_byte, trap_bytes};
+ghost use Rattle.gated.specs.Traps.{all_below, spot_byte, trap_bytes};
 ghost use Rattle.std.specs.List.{range_with_len};
 ghost use Rattle.std.specs.Prelude.{◌≡◌, true, map, IfOk, MatchResult};
 
@@ -13,35 +13,16 @@ use std::alloc::{AllocError, Global};
 fn are_below(traps: &[u8], spots: u8) -> bool
     ensures { result ≡ all_below spots traps.now }
 {
-    for trap in traps {
-        if *trap >= spots {
-            return false;
-        }
-    }
-    true
-}
-
-// Whether a spot is trapped.
-fn has_trap(traps: &[u8], spot: u8) -> bool
-    ensures { result ≡ is_trap traps.now spot }
-{
-    for trap in traps {
-        if *trap == spot {
-            return true;
-        }
-    }
-    false
+    traps.iter().all(|trap| *trap < spots)
 }
 
 // A byte for each spot: 1 on a trap.
 fn spot_bytes(heap: Global, traps: &[u8], spots: u8) -> Result<Vec<u8>, AllocError>
     ensures { IfOk result (λ v. v.items ≡ map (spot_byte traps.now) (range_with_len 0 spots)) }
 {
-    let mut bytes = Vec::new(heap);
-    for spot in 0..spots {
-        bytes.push(u8::from(has_trap(traps, spot)))?;
-    }
-    Ok(bytes)
+    (0..spots)
+        .map(|spot| u8::from(traps.contains(&spot)))
+        .collect(heap)
 }
 
 impl Gated {
@@ -50,12 +31,10 @@ impl Gated {
         ensures { IfOk result (λ v. v.items ≡ trap_bytes (spots_of (board_of self.now)) (period_of (board_of self.now)) traps.now) }
     {
         let row = spot_bytes(heap, traps, self.board.spots())?;
-        let n = self.board.spots() as u32;
-        let mut bytes = Vec::new(heap);
-        for place in 0..self.board.places() {
-            bytes.push(row[(place % n) as usize])?;
-        }
-        Ok(bytes)
+        let n = u32::from(self.board.spots());
+        (0..self.board.places())
+            .map(|place| row[(place % n) as usize])
+            .collect(heap)
     }
 
     // The trap bytes of traps on spots, or why there are none.
@@ -65,9 +44,6 @@ impl Gated {
         if !are_below(traps, self.board.spots()) {
             return Err(TrapRefusal::OffBoard);
         }
-        match self.place_bytes(heap, traps) {
-            Ok(bytes) => Ok(bytes),
-            Err(_) => Err(TrapRefusal::NoMemory),
-        }
+        Ok(self.place_bytes(heap, traps)?)
     }
 }

@@ -1,21 +1,20 @@
-use Rattle.std.proofs.Common.{[], ◌∷◌, vec_items, sym, ap, ◌∙◌, arith}
-use Rattle.std.proofs.lemmas.List.{append-nil}
-use Rattle.gated.proofs.Built.{grown, whole}
+use Rattle.std.proofs.Common.{vec_items, ◌++◌, ◌∷◌, [], ap, ◌∙◌, rules}
+use Rattle.std.proofs.lemmas.List.{append_assoc}
+use Rattle.std.proofs.lemmas.Result.{on_ok_weaker}
+use Rattle.std.proofs.lemmas.Iterator.{YieldsList-from_slice}
+use Rattle.std.proofs.lemmas.Iterator.Adapters.{items_from_extend}
+use Rattle.std.proofs.lemmas.Iterator.Consumers.{YieldsList-from_filter_map}
+use Rattle.gated.specs.Exits.{fars}
+use Rattle.gated.proofs.Built.{first_far, first_back, fars_mapped}
 use Rattle.gated.proofs.index.push_exits.Goals as goal
-use Rattle.gated.proofs.index.push_exits.Goals.{in-Some+in_ok-push-2, in_default}
-
-pub loop-gate-preserved : goal.loop-gate-preserved
-loop-gate-preserved c =
-    let had = vec_items c.loop-gate.exits in
-    elim c.match-far_end.branch [
-      | in-Some+in_ok-push-2 w ↦
-          grown c.args.step c.args.spot c.args.gates.now c.loop-gate.gate-index c.gate-item.result (omega arith) c.gate-item.is (vec_items c.push.new.self) had
-          (w.in-Some.to ∷ []) (vec_items c.match-far_end.exits) c.loop-gate.invariant w.in-Some.ensures (ap vec_items w.exits-is ∙ w.in_ok-push-2.ensures.items)
-      | in_default w ↦
-          grown c.args.step c.args.spot c.args.gates.now c.loop-gate.gate-index c.gate-item.result (omega arith) c.gate-item.is (vec_items c.push.new.self) had
-          [] (vec_items c.match-far_end.exits) c.loop-gate.invariant w.in_default.ensures (ap vec_items w.exits-is ∙ sym (append-nil had))
-    ]
 
 pub returns : goal.returns
 returns c =
-    whole c.args.step c.args.spot c.args.gates.now c.loop-gate.gate-index (omega arith) (vec_items c.args.exits.now) (vec_items c.loop-gate.exits) (vec_items c.push.new.self) c.in_ok-push.ensures.items c.loop-gate.invariant
+    let gates = c.args.gates.now in
+    let t = c.args.step in
+    let spot = c.args.spot in
+    let chain = items_from_extend c.extend.result c.extend.ensures.ran (YieldsList-from_filter_map _ (first_far t spot) (YieldsList-from_slice gates (cc)) c.filter_map.ensures.closure (λ x r q k. search (rules, first_back))) in
+    on_ok_weaker c.extend.result
+    (λ e. e.0 ∙ ap (λ xs. vec_items c.push.new.self ++ xs) (fars_mapped t spot gates)
+    ∙ ap (λ xs. xs ++ fars t spot gates) c.in_ok-push.ensures.items ∙ append_assoc (vec_items c.args.exits.now) (spot ∷ []) (fars t spot gates))
+    chain

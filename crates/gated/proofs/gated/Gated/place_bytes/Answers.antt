@@ -1,22 +1,31 @@
-use Rattle.std.proofs.Common.{◌%◌, ◌<◌, vec_items, ap, ◌∙◌, arith}
+use Rattle.std.proofs.Common.{◌≡◌, ℕ, ◌<◌, IfOk, map, vec_items, subst, ap, rules, tests, arith}
 use Rattle.std.proofs.lemmas.Nat.{mod_below}
+use Rattle.std.proofs.lemmas.Iterator.{YieldsList-from_range, YieldsList-from_map, items_from_collect, serves_from_Range}
+use Rattle.std.specs.List.{range_with_len}
+use Rattle.board.specs.Boards.{spots_of, period_of}
+use Rattle.board.specs.Gates.{places}
 use Rattle.gated.specs.Places.{runner_of}
 use Rattle.gated.specs.Traps.{spot_byte}
-use Rattle.gated.proofs.Trapping.{mapped_more, mapped_length, mapped_read}
+use Rattle.gated.proofs.Trapping.{mapped_length, mapped_read}
 use Rattle.gated.proofs.gated.Gated.place_bytes.Goals as goal
 
-pub index-requires : goal.index-requires
-index-requires c =
+pub collect-requires-clause-can : goal.collect-requires-clause-can
+collect-requires-clause-can c =
+    let n = c.map.result.f.1.now in
     let row = c.in_ok-row.row in
-    omega (arith, mod_below c.loop-place.place c.spots-n.result (omega (arith, c.args.self.now.board.sized.0)), row.ok.0, mapped_length (spot_byte c.args.traps.now) c.spots.result (vec_items row) c.in_ok-row.ensures)
+    let n-is : n ≡ c.from-n.result = ap (λ f. f.1.now) c.map.ensures.closure in
+    let some : 0 < n = omega (arith, n-is, c.from-n.ensures, c.spots-2.ensures, c.args.self.now.board.draft.sized.0) in
+    let long = mapped_length (spot_byte c.args.traps.now) c.spots.result (vec_items row) c.in_ok-row.ensures in
+    let row-is = ap (λ f. f.0.now) c.map.ensures.closure in
+    (tt, serves_from_Range (λ x q k. search (rules, tests)) (λ x low high. (λ κs p g e r f. some, λ κs p g e r f o l. rw row-is (omega (arith, mod_below x n some, n-is, c.from-n.ensures, c.spots-2.ensures, c.spots.ensures, row.ok.0, long)))))
 
-pub loop-place-preserved : goal.loop-place-preserved
-loop-place-preserved c =
-    let b = c.args.self.now.board in
+pub returns : goal.returns
+returns c =
     let g = spot_byte c.args.traps.now in
-    let p = c.loop-place.place in
-    let n = c.spots-n.result in
-    let h : p % n < n = mod_below p n (omega (arith, b.sized.0)) in
-    mapped_more (λ q. g (runner_of b.spots q)) p c.index.result.now (vec_items c.loop-place.bytes) (vec_items c.push.new.self) c.loop-place.invariant
-    (mapped_read g c.spots.result (vec_items c.in_ok-row.row) c.in_ok-row.ensures (p % n) c.index.result.now (omega arith) c.index.ensures ∙ ap (λ m. g (p % m)) c.spots-n.ensures)
-    c.in_ok-push.ensures.items
+    let n = c.spots.result in
+    let some : 0 < n = omega (arith, c.spots.ensures, c.args.self.now.board.draft.sized.0) in
+    let same : c.from-n.result ≡ n = omega (arith, c.from-n.ensures, c.spots-2.ensures, c.spots.ensures) in
+    let byte = mapped_read g n c.from-n.result (vec_items c.in_ok-row.row) c.in_ok-row.ensures some same in
+    let made = items_from_collect c.collect.result c.collect.ensures.ran (YieldsList-from_map _ (λ p. g (runner_of n p)) (YieldsList-from_range 0 c.places.result c.places.result (cc) (omega arith)) c.map.ensures.closure (λ x r q k. search (rules, byte))) in
+    subst (λ (m : ℕ). IfOk c.collect.result (λ v. vec_items v ≡ map (λ p. g (runner_of m p)) (range_with_len 0 (places (spots_of c.args.self.now.board) (period_of c.args.self.now.board))))) c.spots.ensures
+    (subst (λ (m : ℕ). IfOk c.collect.result (λ v. vec_items v ≡ map (λ p. g (runner_of n p)) (range_with_len 0 m))) c.places.ensures made)
