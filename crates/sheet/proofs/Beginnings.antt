@@ -4,10 +4,9 @@ use Rattle.std.proofs.Math.Seq.{drop-append_seam}
 use Rattle.lines.specs.declared.line.Line.{Line}
 use Rattle.lines.specs.declared.line.Line.TheVariants.{Board, Gate, Trap, End}
 use Rattle.lines.specs.declared.line.Read.{Read}
-use Rattle.lines.specs.declared.kind.Kind.TheVariants.{Number}
 use Rattle.lines.specs.declared.part.Part.{Part}
 use Rattle.lines.specs.declared.refusal.Told.{Told}
-use Rattle.lines.specs.Grammar.{FieldOf}
+use Rattle.lines.specs.Grammar.{Number, FieldOf}
 use Rattle.lines.specs.Lines.{Entry, board, end, Formed, line_bytes, entry_of, fields, Laid, LineAt}
 use Rattle.lines.specs.Values.{decimal}
 use Rattle.board.specs.declared.draft.refusal.SpotsRefusal.{SpotsRefusal}

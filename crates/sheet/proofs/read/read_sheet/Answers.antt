@@ -28,7 +28,8 @@ pub returns-in_err-take : goal.returns-in_err-take
 returns-in_err-take c =
     let p = err_from_is_err_and c.from_residual-in_err-take.result c.from_residual-in_err-take.ensures.1 in
     let on = goes_on _ c.in_default.not-End in
-    rw (p.1, p.2) (exactly _ _ (turned_down _ _ _ _ _ c.loop-reading.invariant c.in_ok-read.ensures on (c.in_err-take.ensures on)))
+    let why = rw c.in_ok-read.ensures.offset at c.in_err-take.ensures on in
+    rw (p.1, p.2) (exactly _ _ (turned_down _ _ _ _ _ c.loop-reading.invariant c.in_ok-read.ensures on why))
 
 pub loop-reading-smaller : goal.loop-reading-smaller
 loop-reading-smaller c = next_less _ _ _ _ c.loop-reading.invariant c.in_ok-read.ensures
