@@ -3,7 +3,7 @@ use Rattle.std.specs.Prelude.{ℕ, ◌+◌, ◌⊎◌, List, [], ◌∷◌, leng
 use Rattle.std.specs.Coded.{×_prop, →_prop, Unit-prop, le_prop, Coded-set, coded_ℕ}
 use Rattle.std.proofs.Common.{sym, ap, ◌∙◌, subst, inl, inr, eqb}
 use Rattle.std.proofs.Math.Dec.{T}
-use Rattle.std.specs.List.{AllByRecursion}
+use Rattle.std.specs.List.{AllByRecursion-prop}
 use Rattle.lines.specs.declared.part.Part.{Part}
 use Rattle.lines.specs.Entries.{Entry, mark_of, texts, Formed, Laid}
 use Rattle.lines.specs.Grammar.{Kind, Number, Pattern, Byte, Plain, FieldOf, Forms, kinds}
@@ -18,10 +18,6 @@ byte_single : (k : Kind) (b : ℕ) → IsProp (Byte k b)
 byte_single Number b = ×_prop le_prop le_prop
 byte_single Pattern b = one_of _ _ (Coded-set coded_ℕ b 48) (Coded-set coded_ℕ b 49) (λ x y. subst (λ n. T (eqb n 48)) (sym x ∙ y) tt)
 
-all_single : (P : ℕ → Type 0) → ((b : ℕ) → IsProp (P b)) → (f : List ℕ) → IsProp (AllByRecursion P f)
-all_single P each [] = Unit-prop
-all_single P each (b ∷ f) = ×_prop (each b) (all_single P each f)
-
 plain_single : (k : Kind) (f : List ℕ) → IsProp (Plain k f)
 plain_single Number f = →_prop (→_prop (λ x y. absurd x))
 plain_single Pattern f = Unit-prop
@@ -30,7 +26,7 @@ field_single : (k : Kind) (f : List ℕ) → IsProp (FieldOf k f)
 field_single k f g h = λ i. record {
   some = le_prop g.some h.some i;
   short = le_prop g.short h.short i;
-  bytes = all_single (Byte k) (byte_single k) f g.bytes h.bytes i;
+  bytes = AllByRecursion-prop (Byte k) (byte_single k) f g.bytes h.bytes i;
   plain = plain_single k f g.plain h.plain i;
 }
 

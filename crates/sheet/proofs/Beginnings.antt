@@ -1,13 +1,12 @@
 -- Beginnings of a sheet: how one line more goes on with them.
-use Rattle.std.proofs.Common.{◌≡◌, ℕ, ◌+◌, ◌-◌, ◌<◌, ◌≤◌, List, [], ◌∷◌, ◌++◌, length, drop, Some, None, Ok, Err, Option, Result, sym, refl, ap, ◌∙◌, subst, inl, inr, append_assoc, append-nil, arith, length-append}
+use Rattle.std.proofs.Common.{◌≡◌, ℕ, ◌+◌, ◌≤◌, List, [], ◌∷◌, ◌++◌, length, drop, Some, None, Ok, Err, Option, Result, sym, refl, ap, ◌∙◌, subst, inl, inr, append_assoc, append-nil, arith, length-append}
 use Rattle.std.proofs.Math.Seq.{drop-append_seam}
 use Rattle.lines.specs.declared.line.Line.{Line}
 use Rattle.lines.specs.declared.line.Line.TheVariants.{Board, Gate, Trap, End}
 use Rattle.lines.specs.declared.line.Read.{Read}
-use Rattle.lines.specs.declared.kind.Kind.TheVariants.{Number}
 use Rattle.lines.specs.declared.part.Part.{Part}
 use Rattle.lines.specs.declared.refusal.Told.{Told}
-use Rattle.lines.specs.Grammar.{FieldOf}
+use Rattle.lines.specs.Grammar.{Number, FieldOf}
 use Rattle.lines.specs.Lines.{Entry, board, end, Formed, line_bytes, entry_of, fields, Laid, LineAt}
 use Rattle.lines.specs.Values.{decimal}
 use Rattle.board.specs.declared.draft.refusal.SpotsRefusal.{SpotsRefusal}
@@ -38,9 +37,6 @@ written_push (d ∷ es) e = ap (λ x. line_bytes d ++ x) (written_push es e) ∙
 -- what the text has from the offset on
 rest_is : (text : List ℕ) (at : ℕ) (s : Option Held) (b : Begun text at s) → drop at text ≡ b.rest
 rest_is text at s b = ap (λ i. drop i text) b.here ∙ ap (drop (length (written b.lines))) b.whole ∙ drop-append_seam (written b.lines) b.rest
-
-pub begun_within : (text : List ℕ) (at : ℕ) (s : Option Held) → Begun text at s → at ≤ length text
-begun_within text at s b = omega (arith, b.here, simp length-append at (ap length b.whole))
 
 pub begun_none : (text : List ℕ) → Begun text 0 None
 begun_none text = record { lines = []; rest = text; lawful = tt; whole = refl; here = refl; says = refl }
@@ -101,9 +97,6 @@ turned_down text at s x None b h on f = record {
 line_length : (text : List ℕ) (at : ℕ) (s : Option Held) (x : Read) → Begun text at s → (h : LineAt at (drop at text) x) → length text ≡ x.next + length h.after
 line_length text at s x b h =
     omega (arith, h.next, b.here, simp length-append at (ap length b.whole), simp length-append at (ap length (fronts text at s x b h)))
-
-pub next_less : (text : List ℕ) (at : ℕ) (s : Option Held) (x : Read) → Begun text at s → LineAt at (drop at text) x → length text - x.next < length text - at
-next_less text at s x b h = omega (arith, h.next, line_length text at s x b h)
 
 nil_of : (xs : List ℕ) → length xs ≤ 0 → xs ≡ []
 nil_of [] h = refl

@@ -7,7 +7,8 @@ use crate::reading::Reading;
 use crate::refusal::Refusal;
 use crate::sheet::Sheet;
 use board::Draft;
-use lines::line::{Line, Read, read_line};
+use lines::line::{Line, Read};
+use lines::read::read_line;
 use std::alloc::Global;
 
 // The line that begins at the offset `at`.
@@ -18,10 +19,7 @@ fn line_at<'a>(sheet: &'a [u8], at: usize) -> Result<Read<'a>, Refusal>
     if at == sheet.len() {
         return Err(Refusal::Misplaced { offset: at });
     }
-    match read_line(sheet, at) {
-        Ok(read) => Ok(read),
-        Err(why) => Err(Refusal::Line(why)),
-    }
+    Ok(read_line(sheet, at)?)
 }
 
 // The board's line, and the offset of the next.
@@ -55,7 +53,7 @@ pub fn read_sheet(heap: Global, sheet: &[u8]) -> Result<Sheet, Refusal>
         if let Line::End = read.line {
             return reading.close(read.next, sheet.len());
         }
-        reading.take(at, read.line)?;
+        reading.take(read)?;
         at = read.next;
     }
 }

@@ -1,5 +1,5 @@
 ghost use Rattle.std.specs.Prelude.{◌≡◌, ◌+◌, [], ◌∷◌};
-ghost use Rattle.lines.specs.Lines.{gate as gate_line, trap as trap_line, entry_of, fields, Formed, Laid};
+ghost use Rattle.lines.specs.Lines.{gate as gate_line, trap as trap_line, entry_of, Formed, Laid};
 ghost use Rattle.sheet.specs.Parts.{said, gate_refusal, Takes, Ended};
 ghost use Rattle.sheet.specs.Rules.{GoesOn};
 
@@ -8,7 +8,7 @@ use crate::sheet::Sheet;
 use board::board::refusal::SizeRefusal;
 use board::draft::refusal::GateRefusal;
 use board::{Draft, Gate, Pattern};
-use lines::line::Line;
+use lines::line::{Line, Read};
 use lines::part::Part;
 
 // What is read after the board's line.
@@ -38,7 +38,7 @@ impl Reading {
         requires laid { Laid (at + 2) (u ∷ v ∷ p ∷ []) }
         ensures { Takes (said self.old) at (gate_line u.entry.bytes.now v.entry.bytes.now p.entry.bytes.now) (said self.new) result }
     {
-        let spots = self.draft.spots() as u16;
+        let spots = u16::from(self.draft.spots());
         let (from, to) = (u.number(), v.number());
         if from >= spots {
             return Err(Refusal::OutOfRange { offset: u.offset });
@@ -54,10 +54,7 @@ impl Reading {
             to: to as u8,
             pattern,
         };
-        match self.draft.add(gate) {
-            Ok(()) => Ok(()),
-            Err(why) => Err(gate_refusal(why, at)),
-        }
+        self.draft.add(gate).map_err(|why| gate_refusal(why, at))
     }
 
     // One trap more, by its line at the offset `at`.
@@ -67,26 +64,23 @@ impl Reading {
         ensures { Takes (said self.old) at (trap_line v.entry.bytes.now) (said self.new) result }
     {
         let spot = v.number();
-        if spot >= self.draft.spots() as u16 {
+        if spot >= u16::from(self.draft.spots()) {
             return Err(Refusal::OutOfRange { offset: v.offset });
         }
         let spot = spot as u8;
         if self.traps.contains(&spot) {
             return Err(Refusal::Repeated { offset: at });
         }
-        match self.traps.push(spot) {
-            Ok(()) => Ok(()),
-            Err(_) => Err(Refusal::NoMemory),
-        }
+        self.traps.push(spot)?;
+        Ok(())
     }
 
-    // One line more, which begins at the offset `at`; the last line adds nothing.
-    pub(crate) fn take(&mut self, at: usize, line: Line) -> Result<(), Refusal>
-        requires formed { Formed (entry_of line) }
-        requires laid { Laid (at + 2) (fields line) }
-        ensures { GoesOn (entry_of line.entry) → Takes (said self.old) at (entry_of line.entry) (said self.new) result }
+    // One line more; the last line adds nothing.
+    pub(crate) fn take(&mut self, read: Read) -> Result<(), Refusal>
+        ensures { GoesOn (entry_of read.entry.line) → Takes (said self.old) read.entry.text.offset (entry_of read.entry.line) (said self.new) result }
     {
-        match line {
+        let at = read.text.offset;
+        match read.line {
             Line::Board { .. } => Err(Refusal::Misplaced { offset: at }),
             Line::Gate { u, v, pattern } => self.add_gate(at, u, v, pattern),
             Line::Trap { v } => self.add_trap(at, v),
@@ -102,9 +96,9 @@ impl Reading {
             return Err(Refusal::Misplaced { offset: stop });
         }
         let Reading { draft, traps } = self;
-        match draft.close() {
-            Ok(board) => Ok(Sheet { board, traps }),
-            Err(SizeRefusal::TooLarge) => Err(Refusal::TooLarge { offset: stop }),
-        }
+        let board = draft
+            .close()
+            .map_err(|SizeRefusal::TooLarge| Refusal::TooLarge { offset: stop })?;
+        Ok(Sheet { board, traps })
     }
 }

@@ -1,7 +1,9 @@
 ghost use Rattle.std.specs.Prelude.{◌≡◌, Some};
 ghost use Rattle.sheet.specs.Refusals.{board_rule, told};
+ghost use Rattle.sheet.specs.declared.refusal.Refusal.TheVariants.{Line, NoMemory};
 
 use lines::refusal::{Layer, Refusal as LineRefusal, Told};
+use std::alloc::AllocFailed;
 
 // Why a sheet is not read.
 #[derive(Clone, Copy, PartialEq, Eq, Debug)]
@@ -22,6 +24,22 @@ pub enum Refusal {
     TooLarge { offset: usize },
     // There is no memory for what the sheet writes.
     NoMemory,
+}
+
+impl From<LineRefusal> for Refusal {
+    ghost from_gives = { λ why r. r ≡ Line why };
+
+    fn from(why: LineRefusal) -> Refusal {
+        Self::Line(why)
+    }
+}
+
+impl<T: Drop> From<AllocFailed<T>> for Refusal {
+    ghost from_gives = { λ _ r. r ≡ NoMemory };
+
+    fn from(_why: AllocFailed<T>) -> Refusal {
+        Self::NoMemory
+    }
 }
 
 // A rule of boards that is broken.

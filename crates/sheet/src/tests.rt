@@ -6,10 +6,7 @@ use std::test::Fail;
 fn told(heap: Global, sheet: &[u8]) -> (u8, usize) {
     match read_sheet(heap, sheet) {
         Ok(sheet) => (0, sheet.board.gates().len()),
-        Err(why) => match why.told() {
-            Some(told) => (told.number, told.offset),
-            None => (0, 0),
-        },
+        Err(why) => why.told().map_or((0, 0), |told| (told.number, told.offset)),
     }
 }
 

@@ -2,7 +2,7 @@ use Rattle.std.proofs.Common.{Some, ap}
 use Rattle.std.proofs.lemmas.Result.{err_from_is_err_and}
 use Rattle.lines.specs.Lines.{entry_of}
 use Rattle.sheet.specs.Parts.{said}
-use Rattle.sheet.proofs.Beginnings.{begun_within, begun_more, stopped, turned_down, closed, goes_on, next_less}
+use Rattle.sheet.proofs.Beginnings.{begun_more, stopped, turned_down, closed, goes_on}
 use Rattle.sheet.proofs.Once.{exactly}
 use Rattle.sheet.proofs.read.read_sheet.Goals as goal
 
@@ -10,9 +10,6 @@ pub returns-in_err-reading : goal.returns-in_err-reading
 returns-in_err-reading c =
     let p = err_from_is_err_and c.from_residual.result c.from_residual.ensures.1 in
     rw (p.1, p.2) (exactly _ _ c.in_err-reading.ensures)
-
-pub line_at-requires : goal.line_at-requires
-line_at-requires c = begun_within _ _ _ c.loop-reading.invariant
 
 pub returns-in_err-read : goal.returns-in_err-read
 returns-in_err-read c =
@@ -28,10 +25,8 @@ pub returns-in_err-take : goal.returns-in_err-take
 returns-in_err-take c =
     let p = err_from_is_err_and c.from_residual-in_err-take.result c.from_residual-in_err-take.ensures.1 in
     let on = goes_on _ c.in_default.not-End in
-    rw (p.1, p.2) (exactly _ _ (turned_down _ _ _ _ _ c.loop-reading.invariant c.in_ok-read.ensures on (c.in_err-take.ensures on)))
-
-pub loop-reading-smaller : goal.loop-reading-smaller
-loop-reading-smaller c = next_less _ _ _ _ c.loop-reading.invariant c.in_ok-read.ensures
+    let why = rw c.in_ok-read.ensures.offset at c.in_err-take.ensures on in
+    rw (p.1, p.2) (exactly _ _ (turned_down _ _ _ _ _ c.loop-reading.invariant c.in_ok-read.ensures on why))
 
 pub loop-reading-preserved : goal.loop-reading-preserved
 loop-reading-preserved c =
