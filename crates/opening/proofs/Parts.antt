@@ -1,6 +1,5 @@
 -- The rows of the marks at the start.
 use Rattle.std.proofs.Common.{◌≡◌, ℕ, ◌+◌, ◌-◌, ◌*◌, ◌<◌, ◌≤◌, List, length, take, drop, ap, ◌∙◌, mul-le-mul_right, add-mul, arith, length-drop, length-take}
-use Rattle.board.specs.Gates.{places}
 use Rattle.opening.specs.Rows.{row}
 
 -- a row lies within the marks
@@ -16,10 +15,3 @@ row_length n c marks h k =
     let within = row_within n c (length marks) h k in
     let rest : n ≤ length (drop (c * n) marks) = omega (arith, length-drop (c * n) marks) in
     length-take n (drop (c * n) marks) ∙ omega arith
-
--- the table of a board has a row for each pursuer start
-pub rows_fit : (n T l : ℕ) → 0 < T → l ≡ 2 * places n T → n * n ≤ l
-rows_fit n T l run e =
-    let one : 1 * n ≤ T * 2 * n = mul-le-mul_right {m = 1} {n = T * 2} n (omega arith) in
-    let all : n * n ≤ T * 2 * n * n = mul-le-mul_right {m = n} {n = T * 2 * n} n (omega arith) in
-    omega arith
