@@ -1,5 +1,5 @@
 -- When a table of a gated board with traps is accepted, and why not.
-use Rattle.std.specs.Prelude.{ℕ, List, length}
+use Rattle.std.specs.Prelude.{ℕ, List, length, Option, Some}
 use Rattle.arena.specs.Tables.{TrueTable}
 use Rattle.arena.specs.Unfit.{Fits}
 use Rattle.board.specs.declared.board.Board.{Board}
@@ -17,9 +17,9 @@ pub record BoardTrue (b : Board) (traps : List ℕ) (V : List ℕ) : Type 0 wher
   pub endless : TrueEndless b (trapped_endless b traps) (trapped_game b traps) V
 
 -- the number of each refusal, and its values; want of memory has no number
-abbrev pub told : BoardFault → ℕ × List ℕ
+abbrev pub told : BoardFault → Option (ℕ × List ℕ)
 told (Traps why) = told_traps why
-told (Table why) = told_table why
+told (Table why) = Some (told_table why)
 
 -- why it is not: the traps cannot be laid, or the table is refused by the board's game with its traps
 abbrev pub Cause : Board → List ℕ → List ℕ → BoardFault → Type 0

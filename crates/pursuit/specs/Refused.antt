@@ -1,5 +1,5 @@
 -- Why a board is not solved.
-use Rattle.std.specs.Prelude.{ℕ, List}
+use Rattle.std.specs.Prelude.{ℕ, List, Option, Some}
 use Rattle.arena.specs.Unfit.{Cause, told as told_unfit}
 use Rattle.board.specs.declared.board.Board.{Board}
 use Rattle.board.specs.Boards.{spots_of}
@@ -9,9 +9,9 @@ use Rattle.pursuit.specs.declared.refusal.BoardRefusal.TheVariants.{Traps, Misfi
 use Rattle.pursuit.specs.Solved.{trapped_game}
 
 -- the number of each refusal, and its values; want of memory has no number
-abbrev pub told : BoardRefusal → ℕ × List ℕ
+abbrev pub told : BoardRefusal → Option (ℕ × List ℕ)
 told (Traps e) = told_traps e
-told (Misfit e) = told_unfit e
+told (Misfit e) = Some (told_unfit e)
 
 -- what is wrong with the traps of a board, or with a table of so many words
 abbrev pub BoardCause : Board → List ℕ → ℕ → BoardRefusal → Type 0

@@ -1,4 +1,5 @@
 ghost use Rattle.pursuit.specs.Checked.{told};
+ghost use Rattle.std.specs.Option.{option_map};
 ghost use Rattle.std.specs.Prelude.{◌≡◌};
 
 use checker::CheckRefusal;
@@ -14,13 +15,13 @@ pub enum BoardFault {
 }
 
 impl BoardFault {
-    // The refusal's number; 0 for want of memory, which has none.
-    pub fn number(self) -> u8
-        ensures { result ≡ (told self).0 }
+    // The refusal's number; want of memory has none.
+    pub fn number(self) -> Option<u8>
+        ensures { result ≡ option_map (λ t. t.0) (told self) }
     {
         match self {
             BoardFault::Traps(why) => why.number(),
-            BoardFault::Table(why) => why.number(),
+            BoardFault::Table(why) => Some(why.number()),
         }
     }
 }

@@ -1,4 +1,5 @@
 ghost use Rattle.pursuit.specs.Refused.{told};
+ghost use Rattle.std.specs.Option.{option_map};
 ghost use Rattle.std.specs.Prelude.{◌≡◌};
 
 use arena::unfit::Unfit;
@@ -14,13 +15,13 @@ pub enum BoardRefusal {
 }
 
 impl BoardRefusal {
-    // The refusal's number; 0 for want of memory, which has none.
-    pub fn number(self) -> u8
-        ensures { result ≡ (told self).0 }
+    // The refusal's number; want of memory has none.
+    pub fn number(self) -> Option<u8>
+        ensures { result ≡ option_map (λ t. t.0) (told self) }
     {
         match self {
             BoardRefusal::Traps(why) => why.number(),
-            BoardRefusal::Misfit(why) => why.number(),
+            BoardRefusal::Misfit(why) => Some(why.number()),
         }
     }
 }

@@ -26,12 +26,12 @@ fn solve_board_leaves_the_table(rt: HostRuntime) -> Result<(), Fail> {
     let mut short = [7, 8, 9];
     let told = solve_board(heap, &arena, &[1], &mut short).err();
     assert_eq!(rt; told, Some(BoardRefusal::Misfit(Unfit::Words)));
-    assert_eq!(rt; told.map(|why| why.number()), Some(16));
+    assert_eq!(rt; told.and_then(|why| why.number()), Some(16));
     assert!(rt; short == [7, 8, 9]);
     let mut table = [7; 32];
     let told = solve_board(heap, &arena, &[2], &mut table).err();
     assert_eq!(rt; told, Some(BoardRefusal::Traps(TrapRefusal::OffBoard)));
-    assert_eq!(rt; told.map(|why| why.number()), Some(21));
+    assert_eq!(rt; told.and_then(|why| why.number()), Some(21));
     assert!(rt; table == [7; 32]);
     Ok(())
 }
