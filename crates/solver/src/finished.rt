@@ -8,8 +8,8 @@ use marks::row::tally;
 use marks::tally::Tally;
 
 // A finished table, to read. That of a finish that was declined is empty.
-// It has a flag and no `Option` of the table: a declined finish promises what it left in the table, and a clause can
-// name the words of a loan that went into a result there alone.
+// The flag stands beside the table, and no `Option` holds it: a declined finish promises what it left in the table, which
+// a clause can name only here, since the loan has gone into the result (a clause on what its lender ends as got no proof).
 #[derive(Clone, Copy)]
 pub struct Finished<'a> {
     pub(crate) table: &'a [u32],

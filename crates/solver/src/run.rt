@@ -27,6 +27,7 @@ pub struct Run<'a> {
 }
 
 // Whether a run can begin on the arena with the table, or why not. It makes no run.
+// It is `admitted` under the name that goes with `begin`: no plainer to call that, which takes a number of words.
 pub fn can_begin<A: Arena>(arena: &A, table: &[u32]) -> Result<(), Unfit>
     ensures { MatchResult result (λ _. Fits (A.Arena.game arena.now) (length table.now)) (Cause (A.Arena.game arena.now) (length table.now)) }
 {
@@ -116,6 +117,7 @@ impl<'a> Run<'a> {
     }
 
     // Ends a settled run in place as a finish does: the table is the caller's again, who knows what it holds.
+    // `finish` cannot serve here: its loan goes into the result, and after that no clause can name the caller's table.
     pub(crate) fn close<A: Arena>(self, arena: &A) -> Counters
         requires reached { Reached (A.Arena.game arena.now) (state_of self) }
         requires settled { (state_of self).settled ≡ true }

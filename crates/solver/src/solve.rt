@@ -15,6 +15,7 @@ use marks::row::tally;
 use marks::tally::Tally;
 
 // What a whole solve tells: the rounds and looks made, and the tally of all marks.
+// The first two are no `Counters`: callers read them by name, and that struct is the crate's own.
 #[derive(Clone, Copy)]
 pub struct Solved {
     pub rounds: u32,
