@@ -1,7 +1,7 @@
 ghost use Rattle.pursuit.specs.Checked.{BoardTrue, Cause};
 ghost use Rattle.std.specs.Result.{MatchResult};
 
-use crate::fault::BoardFault;
+use crate::refusal::{BoardFault, BoardRefusal};
 use crate::trapped::under_traps;
 use checker::check;
 use gated::Gated;
@@ -16,12 +16,6 @@ pub fn check_board(
 ) -> Result<(), BoardFault>
     ensures { MatchResult result (λ _. BoardTrue arena.now.board traps.now table.now) (Cause arena.now.board traps.now table.now) }
 {
-    let bytes = match arena.trap_bytes(heap, traps) {
-        Ok(bytes) => bytes,
-        Err(why) => return Err(BoardFault::Traps(why)),
-    };
-    match check(&under_traps(arena, bytes.as_slice()), table) {
-        Ok(()) => Ok(()),
-        Err(why) => Err(BoardFault::Table(why)),
-    }
+    let bytes = arena.trap_bytes(heap, traps)?;
+    check(&under_traps(arena, bytes.as_slice()), table).map_err(BoardRefusal::Table)
 }

@@ -2,10 +2,8 @@
 #![tactic(auto)]
 
 pub mod check_board;
-pub mod fault;
 pub mod refusal;
 pub mod solve_board;
 mod trapped;
 
-pub use fault::BoardFault;
-pub use refusal::BoardRefusal;
+pub use refusal::{BoardFault, BoardRefusal};

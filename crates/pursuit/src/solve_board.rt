@@ -6,6 +6,7 @@ ghost use Rattle.std.specs.Prelude.{◌≡◌, true, length, MatchResult};
 
 use crate::refusal::BoardRefusal;
 use crate::trapped::under_traps;
+use arena::unfit::Unfit;
 use gated::Gated;
 use solver::Finished;
 use solver::solve::solve_to_read;
@@ -17,17 +18,11 @@ pub fn solve_board<'a>(
     arena: &Gated,
     traps: &[u8],
     table: &'a mut [u32],
-) -> Result<Finished<'a>, BoardRefusal>
+) -> Result<Finished<'a>, BoardRefusal<Unfit>>
     ensures claim { WholeClaim }
     ensures solved { MatchResult result (λ f. (f.accepted ≡ true) × (length (shown f) ≡ length table.old) × BoardSolved arena.now.board traps.now f.made.rounds f.made.looks (shown f)) (BoardCause arena.now.board traps.now (length table.old)) }
 {
-    let bytes = match arena.trap_bytes(heap, traps) {
-        Ok(bytes) => bytes,
-        Err(why) => return Err(BoardRefusal::Traps(why)),
-    };
+    let bytes = arena.trap_bytes(heap, traps)?;
     let trapped = under_traps(arena, bytes.as_slice());
-    match solve_to_read(&trapped, table) {
-        Ok(finished) => Ok(finished),
-        Err(why) => Err(BoardRefusal::Misfit(why)),
-    }
+    solve_to_read(&trapped, table).map_err(BoardRefusal::Table)
 }

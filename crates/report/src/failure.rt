@@ -1,14 +1,29 @@
-ghost use Rattle.report.specs.Failures.{printed};
+ghost use Rattle.report.specs.Failures.{failure_of, numbers, printed};
+ghost use Rattle.report.specs.declared.failure.Failure.TheVariants.{NoMemory};
 ghost use Rattle.std.specs.Prelude.{◌≡◌};
 
+use lines::refusal::Told;
 use sheet::refusal::Refusal;
+use std::alloc::AllocError;
 use std::fmt;
 
-// What is printed of a refusal: its number and the byte offset.
+// What is printed of a refusal: its number and the byte offset. A sheet that is too large breaks no rule of sheets, so
+// there is no layer.
 #[derive(Clone, Copy, PartialEq, Eq, Debug)]
 pub struct Printed {
     pub number: u8,
     pub offset: usize,
+}
+
+impl From<Told> for Printed {
+    ghost from_gives = { λ told refused. refused ≡ numbers told };
+
+    fn from(told: Told) -> Printed {
+        Printed {
+            number: told.number,
+            offset: told.offset,
+        }
+    }
 }
 
 impl fmt::Display for Printed {
@@ -39,14 +54,27 @@ impl Failure {
                 number: 22,
                 offset: 0,
             }),
-            Failure::Refused(why) => match why.told() {
-                Some(told) => Some(Printed {
-                    number: told.number,
-                    offset: told.offset,
-                }),
-                None => None,
-            },
+            Failure::Refused(why) => why.told().map(Printed::from),
             Failure::NoMemory => None,
         }
+    }
+}
+
+impl From<Refusal> for Failure {
+    ghost from_gives = { λ why failure. failure ≡ failure_of why };
+
+    fn from(why: Refusal) -> Failure {
+        match why {
+            Refusal::NoMemory => Failure::NoMemory,
+            _ => Failure::Refused(why),
+        }
+    }
+}
+
+impl From<AllocError> for Failure {
+    ghost from_gives = { λ _ failure. failure ≡ NoMemory };
+
+    fn from(_error: AllocError) -> Failure {
+        Failure::NoMemory
     }
 }

@@ -2,6 +2,7 @@
 #![tactic(auto)]
 
 pub mod failure;
+mod puzzle;
 pub mod report;
 pub mod solve_sheet;
 #[cfg(test)]
