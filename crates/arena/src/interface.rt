@@ -40,10 +40,8 @@ pub trait Arena {
         match self.move_count(place) {
             Some(0) => self.is_capture(place) == Some(true),
             Some(count) => {
-                count <= MOST_MOVES
-                    && (0..count).all(|position| self
-                        .move_at(place, position)
-                        .is_some_and(|to| to < size))
+                let leads_in = |position| self.move_at(place, position).is_some_and(|to| to < size);
+                count <= MOST_MOVES && (0..count).all(leads_in)
             }
             None => false,
         }

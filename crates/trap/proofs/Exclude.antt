@@ -1,5 +1,6 @@
 -- The refusals of traps exclude each other and the lawful bytes.
-use Rattle.std.proofs.Common.{◌≡◌, ℕ, ◌<◌, List, refl, ap, arith}
+use Rattle.std.proofs.Common.{◌≡◌, ℕ, List, refl, ap}
+use Rattle.arena.proofs.First.{first_above_once, not_all_up_to}
 use Rattle.arena.specs.Game.{Game}
 use Rattle.trap.specs.Traps.{Traps}
 use Rattle.trap.specs.TrapRefused.{Cause}
@@ -8,14 +9,10 @@ use Rattle.trap.specs.declared.refusal.TrapRefusal.TheVariants.{Length, Byte}
 
 pub unlawful : (g : Game) (bytes : List ℕ) (e : TrapRefusal) → Cause g bytes e → Traps g bytes → ⊥
 unlawful g bytes Length h t = h t.0
-unlawful g bytes (Byte p) h t = omega (arith, t.1 p h.1.0, h.1.1)
+unlawful g bytes (Byte p) h t = not_all_up_to 1 bytes p h.1 t.1
 
 pub once : (g : Game) (bytes : List ℕ) (d e : TrapRefusal) → Cause g bytes d → Cause g bytes e → d ≡ e
 once g bytes Length Length h k = refl
 once g bytes Length (Byte q) h k = absurd (h k.0)
 once g bytes (Byte p) Length h k = absurd (k h.0)
-once g bytes (Byte p) (Byte q) h k =
-    let a : p < q → ⊥ = λ l. omega (arith, k.1.2 p l, h.1.1) in
-    let b : q < p → ⊥ = λ l. omega (arith, h.1.2 q l, k.1.1) in
-    let e : p ≡ q = grind arith in
-    ap Byte e
+once g bytes (Byte p) (Byte q) h k = ap Byte (first_above_once 1 bytes p q h.1 k.1)

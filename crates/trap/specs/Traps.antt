@@ -1,5 +1,6 @@
 -- A game with more capture places.
-use Rattle.std.specs.Prelude.{◌≡◌, ℕ, ◌<◌, ◌≤◌, Bool, ◌||◌, List, [], ◌∷◌, length, ◌==◌, slice_index}
+use Rattle.std.specs.Prelude.{◌≡◌, ℕ, Bool, ◌||◌, List, [], ◌∷◌, length, ◌==◌, slice_index}
+use Rattle.arena.specs.Bytes.{AllUpTo}
 use Rattle.arena.specs.Game.{Game, Rules}
 
 -- the rules, where each place that passes a test is a capture place too
@@ -21,11 +22,7 @@ piled g (bytes ∷ below) = with_traps (piled g below) bytes
 
 -- each byte is 0 or 1
 abbrev pub Bits : List ℕ → Type 0
-Bits bytes = (k : ℕ) → k < length bytes → slice_index bytes k ≤ 1
-
--- the place p is the first whose byte is above 1
-abbrev pub FirstAbove : List ℕ → ℕ → Type 0
-FirstAbove bytes p = (p < length bytes) × (1 < slice_index bytes p) × ((k : ℕ) → k < p → slice_index bytes k ≤ 1)
+Bits bytes = AllUpTo 1 bytes
 
 -- one byte for each place of a game, each 0 or 1
 abbrev pub Traps : Game → List ℕ → Type 0

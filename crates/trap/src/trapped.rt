@@ -1,9 +1,12 @@
 ghost use Rattle.trap.specs.TrapRefused.{Cause, Exact};
-ghost use Rattle.trap.specs.Traps.{Bits, FirstAbove, Traps, is_trapped, with_traps};
-ghost use Rattle.std.specs.Prelude.{◌≡◌, MatchOption, MatchResult};
+ghost use Rattle.trap.specs.Traps.{Traps, is_trapped, with_traps};
+ghost use Rattle.std.specs.Prelude.{◌≡◌, MatchResult};
 
 use crate::refusal::TrapRefusal;
-use arena::{Arena, Player};
+use arena::{Arena, Player, first_above};
+
+// The byte of a trap, and the greatest that there is.
+const TRAP: u8 = 1;
 
 // An arena with traps: one byte for each place, where 1 adds a capture place. All else is from the arena below, so traps can be piled.
 #[derive(Drop)]
@@ -12,27 +15,11 @@ pub struct Trapped<'b, 't, A> {
     traps: &'t [u8],
 }
 
-// The first place whose byte is above 1.
-fn first_above(traps: &[u8]) -> Option<usize>
-    ensures { MatchOption result (Bits traps.now) (FirstAbove traps.now) }
-{
-    for (place, byte) in traps.iter().enumerate() {
-        if *byte > 1 {
-            return Some(place);
-        }
-    }
-    None
-}
-
 // Whether the byte of a place is 1.
 fn is_trap(traps: &[u8], place: usize) -> bool
     ensures { result ≡ is_trapped traps.now place }
 {
-    if place < traps.len() {
-        traps[place] == 1
-    } else {
-        false
-    }
+    traps.get(place) == Some(&TRAP)
 }
 
 impl<'b, 't, A: Arena> Trapped<'b, 't, A> {
@@ -43,7 +30,7 @@ impl<'b, 't, A: Arena> Trapped<'b, 't, A> {
         if traps.len() != below.size() {
             return Err(TrapRefusal::Length);
         }
-        match first_above(traps) {
+        match first_above(traps, TRAP) {
             Some(place) => Err(TrapRefusal::Byte { place }),
             None => Ok(Trapped { below, traps }),
         }
@@ -62,10 +49,8 @@ impl<'b, 't, A: Arena> Arena for Trapped<'b, 't, A> {
     }
 
     fn is_capture(&self, place: usize) -> Option<bool> {
-        match self.below.is_capture(place) {
-            None => None,
-            Some(capture) => Some(capture | is_trap(self.traps, place)),
-        }
+        let capture = self.below.is_capture(place)?;
+        Some(capture || is_trap(self.traps, place))
     }
 
     fn move_count(&self, place: usize) -> Option<usize> {
@@ -78,10 +63,8 @@ impl<'b, 't, A: Arena> Arena for Trapped<'b, 't, A> {
 
     // A trap makes no place unsound, so only an arena that is unsound below is scanned.
     fn first_unsound(&self) -> Option<usize> {
-        match self.below.first_unsound() {
-            None => None,
-            Some(_) => self.scan_unsound(),
-        }
+        self.below.first_unsound()?;
+        self.scan_unsound()
     }
 }
 
