@@ -1,4 +1,4 @@
--- Folds: how they pass to other joinings, and what the laws give of them.
+-- Folds: that by a pair of joinings, and what the laws give of any.
 use Rattle.std.proofs.Common.{◌≡◌, ℕ, ◌+◌, ◌%◌, ◌^◌, ◌<◌, List, [], ◌∷◌, ◌++◌, length, get_or, take, sym, refl, ap, ◌∙◌, arith, length-take-le}
 use Rattle.std.proofs.lemmas.List.{append-nil, append_assoc, length-append, take_more}
 use Rattle.std.specs.List.{fold, enumerate_from}
