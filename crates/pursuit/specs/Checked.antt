@@ -1,5 +1,5 @@
 -- When a table of a gated board with traps is accepted, and why not.
-use Rattle.std.specs.Prelude.{ℕ, List, length, Option, Some}
+use Rattle.std.specs.Prelude.{ℕ, List, length}
 use Rattle.arena.specs.Tables.{TrueTable}
 use Rattle.arena.specs.Unfit.{Fits}
 use Rattle.board.specs.declared.board.Board.{Board}
