@@ -1,2 +1,3 @@
 pub mod Wanting
+pub mod Handed
 pub mod Telling

@@ -1,16 +1,21 @@
 -- A board with traps on its spots and a table of its size is refused only for want of memory.
-use Rattle.std.proofs.Common.{◌≡◌, ℕ, ◌*◌, ◌<◌, Bool, true, ◌&&◌, ◌||◌, List, [], ◌∷◌, refl, ap, ◌∙◌, lt-ltb}
+use Rattle.std.proofs.Common.{◌≡◌, ℕ, ◌*◌, ◌<◌, Bool, true, ◌&&◌, ◌||◌, List, [], ◌∷◌, Err, is_ok, sym, refl, ap, ◌∙◌, lt-ltb}
 use Rattle.std.specs.List.{AllByRecursion}
-use Rattle.arena.specs.Unfit.{Fits}
+use Rattle.arena.specs.Unfit.{Cause, Fits}
+use Rattle.arena.specs.declared.unfit.Unfit.{Unfit}
 use Rattle.board.specs.declared.board.Board.{Board}
 use Rattle.board.specs.Boards.{spots_of, period_of}
 use Rattle.gated.specs.declared.refusal.TrapRefusal.TheVariants.{OffBoard, NoMemory}
 use Rattle.gated.specs.Traps.{all_below, trap_bytes}
 use Rattle.gated.proofs.Sounds.{sound}
-use Rattle.pursuit.specs.Refused.{BoardCause}
+use Rattle.checker.specs.Verdicts.{Cause as TableCause}
+use Rattle.checker.specs.declared.refusal.CheckRefusal.{CheckRefusal}
+use Rattle.pursuit.specs.Checked.{BoardTrue}
+use Rattle.pursuit.specs.Refused.{CauseOf}
+use Rattle.pursuit.proofs.Claiming.{whole_claim}
 use Rattle.pursuit.specs.Solved.{trapped_game}
 use Rattle.pursuit.specs.declared.refusal.BoardRefusal.{BoardRefusal}
-use Rattle.pursuit.specs.declared.refusal.BoardRefusal.TheVariants.{Traps, Misfit}
+use Rattle.pursuit.specs.declared.refusal.BoardRefusal.TheVariants.{Traps, Table}
 use Rattle.arena.proofs.Fitting.{misfit}
 use Rattle.theory.proofs.Plays.{not_clash}
 use Rattle.trap.specs.Traps.{is_trapped}
@@ -26,10 +31,21 @@ trapped_fits b traps words e =
       sound = λ p lt. let at = s.1 p lt in (at.0, at.1, λ z. ap (λ (c : Bool). c || is_trapped (trap_bytes (spots_of b) (period_of b) traps) p) (at.2 z));
     }
 
-pub only_memory : (b : Board) (traps : List ℕ) (words : ℕ) → all_below (spots_of b) traps ≡ true → words ≡ 2 * places_of b → (e : BoardRefusal) → BoardCause b traps words e → e ≡ Traps NoMemory
-only_memory b traps words below e (Traps OffBoard) cause = absurd (not_clash (all_below (spots_of b) traps) below cause)
-only_memory b traps words below e (Traps NoMemory) cause = refl
-only_memory b traps words below e (Misfit u) cause = absurd (misfit (trapped_game b traps) words u cause (trapped_fits b traps words e))
+-- a table that is so is not refused
+pub unjudged : (b : Board) (traps V : List ℕ) → BoardTrue b traps V → (why : CheckRefusal) → TableCause (trapped_game b traps) V why → ⊥
+unjudged b traps V so why cause =
+    let accepted : is_ok {T = Unit {0}} (Err why) ≡ true = (whole_claim.checked (trapped_game b traps) V (Err why) so.fits cause).1 so.so in
+    not_clash true refl (sym accepted)
+
+-- a table of the board's size fits
+pub never_misfit : (b : Board) (traps : List ℕ) (words : ℕ) → words ≡ 2 * places_of b → (why : Unfit) → Cause (trapped_game b traps) words why → ⊥
+never_misfit b traps words e why cause = misfit (trapped_game b traps) words why cause (trapped_fits b traps words e)
+
+pub only_memory : {W : Type 0} (b : Board) (traps : List ℕ) (Bad : W → Type 0) → all_below (spots_of b) traps ≡ true → ((why : W) → Bad why → ⊥)
+    → (e : BoardRefusal W) → CauseOf b traps Bad e → e ≡ Traps NoMemory
+only_memory b traps Bad below none (Traps OffBoard) cause = absurd (not_clash (all_below (spots_of b) traps) below cause)
+only_memory b traps Bad below none (Traps NoMemory) cause = refl
+only_memory b traps Bad below none (Table why) cause = absurd (none why cause)
 
 -- traps that are each on a spot
 pub below_all : (n : ℕ) (traps : List ℕ) → AllByRecursion (λ v. v < n) traps → all_below n traps ≡ true

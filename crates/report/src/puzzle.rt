@@ -50,8 +50,9 @@ impl Puzzle {
         let places = board.places();
         let mut table = vec![in heap; 0u32; 2 * places as usize]?;
         let traps = self.traps.as_slice();
-        let finished = solve_board(heap, &self.arena, traps, table.as_mut_slice())
-            .map_err(memory_wanting)?;
+        let finished = solve_board(heap, &self.arena, traps, table.as_mut_slice()).map_err(
+            memory_wanting,
+        )?;
         self.judge(heap, finished.words())?;
         let Ok(opening) = opening_of(board, &finished) else {
             unreachable()

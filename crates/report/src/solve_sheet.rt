@@ -32,6 +32,7 @@ fn solve_written(heap: Global, written: Sheet) -> Result<Report, Failure>
 }
 
 // Reads a sheet and solves its board with its traps.
+#[tactic(auto, using(pursuit::proofs::Claiming::whole_claim))]
 pub fn solve_sheet(heap: Global, sheet: &[u8]) -> Result<Report, Failure>
     ensures claim { WholeClaim }
     ensures told { MatchResult result (Reports sheet.now) (Fails sheet.now) }

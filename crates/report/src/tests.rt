@@ -1,3 +1,4 @@
+use crate::failure::Printed;
 use crate::solve_sheet::solve_sheet;
 use std::alloc::{AllocError, Global};
 use std::test::Fail;
@@ -21,25 +22,16 @@ fn prints(heap: Global, sheet: &[u8], text: &str) -> Result<bool, AllocError> {
 
 // Whether the sheet is refused so.
 fn is_refused(heap: Global, sheet: &[u8], number: u8, offset: usize) -> bool {
-    match solve_sheet(heap, sheet) {
-        Ok(_) => false,
-        Err(why) => match why.printed() {
-            Some(refused) => refused.number == number && refused.offset == offset,
-            None => false,
-        },
-    }
+    let told = solve_sheet(heap, sheet).err().and_then(|why| why.printed());
+    told == Some(Printed { number, offset })
 }
 
-// The opening of a sheet's board.
+// Whether the sheet's board opens so.
 fn opens(heap: Global, sheet: &[u8], pursuer: usize, runner: usize, mark: u32) -> bool {
-    match solve_sheet(heap, sheet) {
-        Ok(report) => {
-            report.opening.pursuer == pursuer
-                && report.opening.runner == runner
-                && report.opening.mark == mark
-        }
-        Err(_) => false,
-    }
+    solve_sheet(heap, sheet).is_ok_and(|report| {
+        let opening = report.opening;
+        (opening.pursuer, opening.runner, opening.mark) == (pursuer, runner, mark)
+    })
 }
 
 #[test]
@@ -87,30 +79,12 @@ fn openings(rt: HostRuntime) {
     );
 }
 
-// Adds gates from u to spots above it, while there are fewer than `most`.
-fn push_gates(
-    heap: Global,
-    sheet: &mut String,
-    u: u32,
-    mut made: u32,
-    most: u32,
-) -> Result<u32, AllocError> {
-    for v in 0..24 {
-        if u < v && made < most {
-            let line = format!(in heap; "gt {u} {v} 1\n")?;
-            sheet.push_str(line.as_str())?;
-            made += 1;
-        }
-    }
-    Ok(made)
-}
-
-// A sheet of so many gates, without its end.
-fn gates(heap: Global, most: u32) -> Result<String, AllocError> {
+// A sheet of 24 spots and so many gates, each from a lower spot to a higher one, without its end.
+fn gates(heap: Global, most: usize) -> Result<String, AllocError> {
     let mut sheet = String::from_str(heap, "bd 24\n")?;
-    let mut made = 0;
-    for u in 0..23 {
-        made = push_gates(heap, &mut sheet, u, made, most)?;
+    let pairs = (0..23u32).flat_map(|u| (u + 1..24).map(move |v| (u, v)));
+    for (u, v) in pairs.take(most) {
+        sheet.push_str(format!(in heap; "gt {u} {v} 1\n")?.as_str())?;
     }
     Ok(sheet)
 }
