@@ -15,7 +15,9 @@ pub(crate) struct Fitting<'a, 't, A: Arena> {
     arena: &'a A,
     marks: &'t [u32],
     moves: &'t [u32],
+    // The arena is sound, and there are two words for each of its places.
     ghost fits: { Fits (A.Arena.game arena.now) (length (marks.now ++ moves.now)) },
+    // There is one mark for each place.
     ghost half: { length marks.now ≡ (A.Arena.game arena.now).size },
 }
 
@@ -27,7 +29,8 @@ fn next_mark(mark: u32) -> u32
     if mark < NEVER { mark - 1 } else { NEVER }
 }
 
-// Whether a mark is no better for the player than the one wanted.
+// Whether a mark is no better for the player than the one wanted. It asks for the player at each mark: with the
+// comparison passed in as an `impl Fn`, the proof of the method that called it for each move did not close.
 fn is_no_better(player: Player, wanted: u32, mark: u32) -> bool
     ensures { Decides result (NoBetter player wanted mark) }
 {

@@ -13,11 +13,12 @@ pub enum CheckRefusal {
     Fault { place: usize },
 }
 
+// An arena and a table that do not fit are refused as a misfit.
 impl From<Unfit> for CheckRefusal {
     ghost from_gives = { λ why refusal. refusal ≡ Misfit why };
 
     fn from(why: Unfit) -> CheckRefusal {
-        CheckRefusal::Misfit(why)
+        Self::Misfit(why)
     }
 }
 
