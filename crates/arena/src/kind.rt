@@ -16,6 +16,7 @@ pub struct UnknownKind(pub u8);
 // The greatest byte that names a kind.
 pub const MOST_KIND: u8 = 3;
 
+// The kind that a byte names.
 impl TryFrom<u8> for Kind {
     type Error = UnknownKind;
 

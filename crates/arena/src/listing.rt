@@ -15,6 +15,7 @@ pub struct Listing<'k, 's, 'm> {
     kinds: &'k [u8],
     starts: &'s [u32],
     moves: &'m [u32],
+    // The rows list a game.
     ghost lawful: { LawfulRows kinds.now starts.now moves.now },
 }
 

@@ -3,7 +3,7 @@ ghost use Rattle.arena.specs.Unfit.{Fits};
 ghost use Rattle.checker.specs.Obeys.{ObeysAt};
 ghost use Rattle.checker.specs.Verdicts.{FirstFault, OneVerdict, Verdict};
 
-use crate::place::obeys;
+use crate::place::Fitting;
 use crate::refusal::CheckRefusal;
 use arena::{Arena, admitted};
 
@@ -12,22 +12,15 @@ fn first_fault<A: Arena>(arena: &A, table: &[u32]) -> Option<usize>
     requires { Fits (A.Arena.game arena.now) (length table.now) }
     ensures { MatchOption result ((p : ℕ) → p < (A.Arena.game arena.now).size → ObeysAt (A.Arena.game arena.now) table.now p) (FirstFault (A.Arena.game arena.now) table.now) }
 {
-    let size = arena.size();
-    for place in 0..size {
-        if !obeys(arena, table, size, place) {
-            return Some(place);
-        }
-    }
-    None
+    let fitting = Fitting::new(arena, table);
+    (0..arena.size()).find(|place| !fitting.obeys(*place))
 }
 
 // Whether the marks and both plans of a table are so in the arena's game; else why it is not accepted, and at which place first.
 pub fn check<A: Arena>(arena: &A, table: &[u32]) -> Result<(), CheckRefusal>
     ensures { Verdict (A.Arena.game arena.now) table.now result }
 {
-    if let Err(why) = admitted(arena, table.len()) {
-        return Err(CheckRefusal::Misfit(why));
-    }
+    admitted(arena, table.len())?;
     match first_fault(arena, table) {
         Some(place) => Err(CheckRefusal::Fault { place }),
         None => Ok(()),

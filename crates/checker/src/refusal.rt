@@ -1,4 +1,5 @@
 ghost use Rattle.checker.specs.Verdicts.{told};
+ghost use Rattle.checker.specs.declared.refusal.CheckRefusal.TheVariants.{Misfit};
 ghost use Rattle.std.specs.Prelude.{◌≡◌};
 
 use arena::unfit::Unfit;
@@ -10,6 +11,15 @@ pub enum CheckRefusal {
     Misfit(Unfit),
     // The first place that breaks the table rules.
     Fault { place: usize },
+}
+
+// An arena and a table that do not fit are refused as a misfit.
+impl From<Unfit> for CheckRefusal {
+    ghost from_gives = { λ why refusal. refusal ≡ Misfit why };
+
+    fn from(why: Unfit) -> CheckRefusal {
+        Self::Misfit(why)
+    }
 }
 
 impl CheckRefusal {
