@@ -12,11 +12,11 @@ index-requires-2 c =
 
 pub slice_bounds-result-count : goal.slice_bounds-result-count
 slice_bounds-result-count c =
-    (row_within c.args.self.now c.args.at.now c.requires _ _ c.mover.ensures c.period.ensures _ _ c.index.ensures c.index-2.ensures).0
+    omega (arith, (row_within c.args.self.now c.args.at.now c.requires _ _ c.mover.ensures c.period.ensures _ _ c.index.ensures c.index-2.ensures).0)
 
 pub slice_bounds-result-start : goal.slice_bounds-result-start
 slice_bounds-result-start c =
-    (row_within c.args.self.now c.args.at.now c.requires _ _ c.mover.ensures c.period.ensures _ _ c.index.ensures c.index-2.ensures).0
+    omega (arith, (row_within c.args.self.now c.args.at.now c.requires _ _ c.mover.ensures c.period.ensures _ _ c.index.ensures c.index-2.ensures).0)
 
 pub slice_bounds-result-end : goal.slice_bounds-result-end
 slice_bounds-result-end c =

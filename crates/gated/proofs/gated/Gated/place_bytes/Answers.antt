@@ -1,4 +1,4 @@
-use Rattle.std.proofs.Common.{◌≡◌, ℕ, ◌<◌, IfOk, map, vec_items, subst, ap, rules, tests, arith}
+use Rattle.std.proofs.Common.{◌%◌, ◌≡◌, ℕ, ◌<◌, IfOk, map, vec_items, vec_len, subst, ap, rules, tests, arith}
 use Rattle.std.proofs.lemmas.Nat.{mod_below}
 use Rattle.std.proofs.lemmas.Iterator.{YieldsList-from_range, YieldsList-from_map, items_from_collect, serves_from_Range}
 use Rattle.std.specs.List.{range_with_len}
@@ -14,10 +14,11 @@ collect-requires-clause-can c =
     let n = c.map.result.f.1.now in
     let row = c.in_ok-row.row in
     let n-is : n ≡ c.from-n.result = ap (λ f. f.1.now) c.map.ensures.closure in
+    let row-is = ap (λ f. f.0.now) c.map.ensures.closure in
     let some : 0 < n = omega (arith, n-is, c.from-n.ensures, c.spots-2.ensures, c.args.self.now.board.draft.sized.0) in
     let long = mapped_length (spot_byte c.args.traps.now) c.spots.result (vec_items row) c.in_ok-row.ensures in
-    let row-is = ap (λ f. f.0.now) c.map.ensures.closure in
-    (tt, serves_from_Range (λ x q k. search (rules, tests)) (λ x low high. (λ κs p g e r f. some, λ κs p g e r f o l. rw row-is (omega (arith, mod_below x n some, n-is, c.from-n.ensures, c.spots-2.ensures, c.spots.ensures, row.ok.0, long)))))
+    let within : (y : ℕ) → y % n < vec_len c.map.result.f.0.now = λ y. rw row-is (omega (arith, mod_below y n some, n-is, c.from-n.ensures, c.spots-2.ensures, c.spots.ensures, row.ok.0, long)) in
+    (tt, serves_from_Range (λ x q k. search (rules, tests)) (λ x low high. search (rules, some, within)))
 
 pub returns : goal.returns
 returns c =
