@@ -1,31 +1,28 @@
-// Which pairs of spots below 64 are joined: a row of bits for each spot, bit v of row u for the pair of u and v.
-#[derive(Clone, Copy)]
+use std::alloc::{AllocFailed, Global};
+use std::collections::BTreeSet;
+
+// Which pairs of spots are joined, each pair with its lower spot first.
+#[derive(Drop)]
 pub struct Joined {
-    rows: [u64; 64],
+    pairs: BTreeSet<(u32, u32)>,
 }
 
 impl Joined {
     // No pair.
-    pub fn new() -> Joined {
-        Joined { rows: [0; 64] }
+    pub fn new(heap: Global) -> Joined {
+        Joined {
+            pairs: BTreeSet::new(heap),
+        }
     }
 
+    // Whether the pair is joined, in either order.
     pub fn has(&self, u: u32, v: u32) -> bool {
-        match self.rows.get(u as usize) {
-            Some(row) => row & 1u64.wrapping_shl(v) != 0,
-            None => false,
-        }
+        self.pairs.contains(&(u.min(v), u.max(v)))
     }
 
-    fn mark(&mut self, u: u32, v: u32) {
-        if let Some(row) = self.rows.get_mut(u as usize) {
-            *row |= 1u64.wrapping_shl(v);
-        }
-    }
-
-    // Joins the pair, both ways.
-    pub fn join(&mut self, u: u32, v: u32) {
-        self.mark(u, v);
-        self.mark(v, u);
+    // Joins the pair.
+    pub fn join(&mut self, u: u32, v: u32) -> Result<(), AllocFailed<(u32, u32)>> {
+        self.pairs.insert((u.min(v), u.max(v)))?;
+        Ok(())
     }
 }

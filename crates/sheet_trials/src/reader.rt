@@ -3,6 +3,7 @@ use crate::clock::joint_clock;
 use crate::grammar::{Field, Place, Sort, Word, after_mark};
 use crate::joined::Joined;
 use std::alloc::Global;
+use std::collections::BTreeSet;
 
 const MOST_SPOTS: u32 = 64;
 
@@ -55,7 +56,7 @@ struct Reader {
     spots: Option<u32>,
     period: Option<u64>,
     joined: Joined,
-    trapped: u64,
+    trapped: BTreeSet<u32>,
     gates: Vec<Row>,
     traps: Vec<u32>,
 }
@@ -70,8 +71,8 @@ impl Reader {
             steps: Word::new(0),
             spots: None,
             period: Some(1),
-            joined: Joined::new(),
-            trapped: 0,
+            joined: Joined::new(heap),
+            trapped: BTreeSet::new(heap),
             gates: Vec::new(heap),
             traps: Vec::new(heap),
         }
@@ -135,7 +136,7 @@ impl Reader {
             bits: self.steps.value,
             steps: self.steps.length,
         };
-        self.joined.join(row.from, row.to);
+        self.joined.join(row.from, row.to)?;
         if let Some(period) = self.period {
             self.period = joint_clock(period, row.steps);
         }
@@ -148,11 +149,9 @@ impl Reader {
         if spot >= spots {
             return broken(Rule::Range, self.one.offset);
         }
-        let bit = 1u64.wrapping_shl(spot);
-        if self.trapped & bit != 0 {
+        if !self.trapped.insert(spot)? {
             return broken(Rule::Once, self.start);
         }
-        self.trapped |= bit;
         self.traps.push(spot)?;
         Ok(())
     }
