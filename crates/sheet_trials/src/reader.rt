@@ -195,7 +195,7 @@ impl Reader {
         }
     }
 
-    // The next byte, which stands at the offset.
+    // The next byte, which stands at the offset. The place is an enum and no closure, which the reader could keep only boxed.
     fn take(&mut self, at: usize, byte: u8) -> Result<(), Stop> {
         match self.place {
             Place::LineStart => {
