@@ -1,7 +1,6 @@
 use crate::answer::{About, Answer, Row, Stop, Written};
 use crate::clock::joint_clock;
 use crate::grammar::{Field, Place, Sort, Word, after_mark};
-use crate::joined::Joined;
 use std::alloc::Global;
 use std::collections::BTreeSet;
 
@@ -43,6 +42,11 @@ fn broken<T>(rule: Rule, offset: usize) -> Result<T, Stop> {
     })
 }
 
+// Two spots as a pair, the lower first.
+fn pair(u: u32, v: u32) -> (u32, u32) {
+    (u.min(v), u.max(v))
+}
+
 // An automaton that takes a sheet byte by byte. A line is judged at its last byte.
 #[derive(Drop)]
 struct Reader {
@@ -55,7 +59,7 @@ struct Reader {
     // What the lines before it say; the period is none once it is longer than any board's.
     spots: Option<u32>,
     period: Option<u64>,
-    joined: Joined,
+    joined: BTreeSet<(u32, u32)>,
     trapped: BTreeSet<u32>,
     gates: Vec<Row>,
     traps: Vec<u32>,
@@ -71,7 +75,7 @@ impl Reader {
             steps: Word::new(0),
             spots: None,
             period: Some(1),
-            joined: Joined::new(heap),
+            joined: BTreeSet::new(heap),
             trapped: BTreeSet::new(heap),
             gates: Vec::new(heap),
             traps: Vec::new(heap),
@@ -119,7 +123,7 @@ impl Reader {
         if self.steps.value == 0 {
             return broken(Rule::SomeStep, self.steps.offset);
         }
-        if from == to || self.joined.has(from, to) {
+        if from == to || self.joined.contains(&pair(from, to)) {
             return broken(Rule::Once, self.start);
         }
         if self.gates.len() >= MOST_GATES {
@@ -136,7 +140,7 @@ impl Reader {
             bits: self.steps.value,
             steps: self.steps.length,
         };
-        self.joined.join(row.from, row.to)?;
+        self.joined.insert(pair(row.from, row.to))?;
         if let Some(period) = self.period {
             self.period = joint_clock(period, row.steps);
         }
