@@ -37,7 +37,8 @@ impl<'a> Rest<'a> {
         })
     }
 
-    // The line of a known mark, of which this is what follows the mark.
+    // The line of a known mark, of which this is what follows the mark. A closure in place of the mark would be no plainer: it
+    // would hide which mark the answer is for.
     fn read_after(self, mark: Mark) -> Result<Found<'a>, NoLine>
         ensures { MatchResult result (λ found. ReadsAfter mark self.entry found) (λ why. StopsAt (RestOf (kinds mark)) self.entry why) }
     {

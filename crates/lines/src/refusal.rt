@@ -12,7 +12,8 @@ pub enum Layer {
     Pattern,
 }
 
-// A rule's number, the offset in the sheet where it is broken, and what the rule is about.
+// A rule's number, the offset in the sheet where it is broken, and what the rule is about. The number is no enum, since it
+// is what is printed.
 #[derive(Clone, Copy, PartialEq, Eq, Debug)]
 pub struct Told {
     pub number: u8,

@@ -9,67 +9,64 @@ use std::alloc::{AllocError, Global};
 use std::process::Abort;
 use std::test::Fail;
 
-// A gate as a row: its bits are the steps at which it says that it is open.
-fn row_of(gate: &Gate) -> Row {
-    let steps = u32::from(gate.pattern.steps());
-    let mut bits = 0u32;
-    for step in 0..steps {
-        if gate.pattern.is_open(step) {
-            bits |= 1u32.wrapping_shl(step);
+impl<'a> From<&'a Gate> for Row {
+    // Its bits are the steps at which the gate says that it is open.
+    fn from(gate: &'a Gate) -> Row {
+        let steps = u32::from(gate.pattern.steps());
+        let bits = (0..steps)
+            .filter(|step| gate.pattern.is_open(*step))
+            .fold(0u32, |bits, step| bits | 1u32.wrapping_shl(step));
+        Row {
+            from: u32::from(gate.from),
+            to: u32::from(gate.to),
+            bits,
+            steps,
         }
     }
-    Row {
-        from: u32::from(gate.from),
-        to: u32::from(gate.to),
-        bits,
-        steps,
+}
+
+impl From<Layer> for About {
+    fn from(layer: Layer) -> About {
+        match layer {
+            Layer::Line => About::Line,
+            Layer::Pattern => About::Pattern,
+            Layer::Board => About::Board,
+        }
     }
 }
 
-fn rows_of(heap: Global, gates: &[Gate]) -> Result<Vec<Row>, AllocError> {
-    let mut rows = Vec::new(heap);
-    for gate in gates {
-        rows.push(row_of(gate))?;
+impl From<Refusal> for Stop {
+    fn from(why: Refusal) -> Stop {
+        why.told().map_or(
+            Stop::NoMemory,
+            |told| Stop::Broken {
+                number: told.number,
+                offset: told.offset,
+                about: About::from(told.layer),
+            },
+        )
     }
-    Ok(rows)
 }
 
+// What the sheet that was read writes.
 fn written(heap: Global, sheet: &Sheet) -> Result<Written, AllocError> {
-    let mut traps = Vec::new(heap);
-    for spot in sheet.traps.as_slice() {
-        traps.push(u32::from(*spot))?;
-    }
+    let gates = sheet.board.gates();
     Ok(Written {
         spots: u32::from(sheet.board.spots()),
         period: sheet.board.period(),
-        gates: rows_of(heap, sheet.board.gates())?,
-        traps,
+        gates: gates.iter().map(|gate| Row::from(gate)).collect(heap)?,
+        traps: sheet
+            .traps
+            .iter()
+            .map(|spot| u32::from(*spot))
+            .collect(heap)?,
     })
-}
-
-// What a refusal of `sheet` tells.
-fn stop_of(why: Refusal) -> Stop {
-    let Some(told) = why.told() else {
-        return Stop::NoMemory;
-    };
-    let about = match told.layer {
-        Layer::Line => About::Line,
-        Layer::Pattern => About::Pattern,
-        Layer::Board => About::Board,
-    };
-    Stop::Broken {
-        number: told.number,
-        offset: told.offset,
-        about,
-    }
 }
 
 // What `sheet` says of a sheet.
 fn first_answer(heap: Global, sheet: &[u8]) -> Answer {
-    match read_sheet(heap, sheet) {
-        Ok(sheet) => Ok(written(heap, &sheet)?),
-        Err(why) => Err(stop_of(why)),
-    }
+    let sheet = read_sheet(heap, sheet)?;
+    Ok(written(heap, &sheet)?)
 }
 
 // What both readers say of a sheet; a failure where they differ.

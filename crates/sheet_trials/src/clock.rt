@@ -15,5 +15,5 @@ pub fn joint_clock(period: u64, steps: u32) -> Option<u64> {
     let steps = u64::from(steps);
     let times = steps.checked_div(greatest_common(period, steps))?;
     let joint = period.saturating_mul(times);
-    if joint > LONGEST { None } else { Some(joint) }
+    (joint <= LONGEST).then_some(joint)
 }

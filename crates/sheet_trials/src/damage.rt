@@ -24,10 +24,7 @@ pub enum Damage {
 
 // The bytes after the first.
 fn rest_of(bytes: &[u8]) -> &[u8] {
-    match bytes {
-        [_, rest @ ..] => rest,
-        [] => bytes,
-    }
+    bytes.split_first().map_or(bytes, |(_, rest)| rest)
 }
 
 // The three parts as one sheet.
@@ -58,8 +55,8 @@ pub fn damaged_at(
 
 fn some_damage(dice: &mut Dice) -> Damage {
     match dice.below(12) {
-        0..=3 => Damage::Replace(dice.byte_of(&BYTES)),
-        4..=6 => Damage::Insert(dice.byte_of(&BYTES)),
+        0..=3 => Damage::Replace(dice.one_of(&BYTES)),
+        4..=6 => Damage::Insert(dice.one_of(&BYTES)),
         7..=8 => Damage::Remove,
         9..=10 => Damage::Double,
         _ => Damage::Cut,
@@ -70,11 +67,11 @@ fn some_damage(dice: &mut Dice) -> Damage {
 fn other_row(dice: &mut Dice, row: Row) -> Row {
     match dice.below(7) {
         0 => Row {
-            from: dice.number_of(&NUMBERS),
+            from: dice.one_of(&NUMBERS),
             ..row
         },
         1 => Row {
-            to: dice.number_of(&NUMBERS),
+            to: dice.one_of(&NUMBERS),
             ..row
         },
         2 => Row { bits: 0, ..row },
@@ -103,11 +100,11 @@ fn other_row(dice: &mut Dice, row: Row) -> Row {
 fn other_entry(dice: &mut Dice, entry: Entry) -> Entry {
     match entry {
         Entry::Board { .. } => Entry::Board {
-            spots: dice.number_of(&NUMBERS),
+            spots: dice.one_of(&NUMBERS),
         },
         Entry::Gate(row) => Entry::Gate(other_row(dice, row)),
         Entry::Trap { .. } => Entry::Trap {
-            spot: dice.number_of(&NUMBERS),
+            spot: dice.one_of(&NUMBERS),
         },
         Entry::End => Entry::End,
     }

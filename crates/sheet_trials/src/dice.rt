@@ -32,13 +32,11 @@ impl Dice {
         (self.roll() % len.max(1) as u64) as usize
     }
 
-    // One of the bytes.
-    pub fn byte_of(&mut self, bytes: &[u8]) -> u8 {
-        bytes.get(self.index(bytes.len())).copied().unwrap_or(0)
-    }
-
-    // One of the numbers.
-    pub fn number_of(&mut self, numbers: &[u32]) -> u32 {
-        numbers.get(self.index(numbers.len())).copied().unwrap_or(0)
+    // One of the items, or the default where there is none.
+    pub fn one_of<T: Copy + Default>(&mut self, items: &[T]) -> T {
+        items
+            .get(self.index(items.len()))
+            .copied()
+            .unwrap_or_default()
     }
 }

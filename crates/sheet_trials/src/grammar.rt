@@ -64,8 +64,7 @@ impl Field {
             Field::Pattern => 2,
             _ => 10,
         };
-        let digit = u32::from(byte.wrapping_sub(b'0'));
-        if digit < base { Some(digit) } else { None }
+        char::from(byte).to_digit(base)
     }
 
     // The most characters that the field can have.

@@ -14,8 +14,6 @@ mod dice;
 #[cfg(test)]
 mod grammar;
 #[cfg(test)]
-mod joined;
-#[cfg(test)]
 mod limits;
 #[cfg(test)]
 mod plan;

@@ -17,9 +17,8 @@ fn fan_gate(number: u32) -> Row {
 pub fn crowded_plan(heap: Global, dice: &mut Dice) -> Result<Vec<Entry>, AllocError> {
     let mut plan = Vec::new(heap);
     plan.push(Entry::Board { spots: 64 })?;
-    for number in 0..dice.below(5).saturating_add(254) {
-        plan.push(Entry::Gate(fan_gate(number)))?;
-    }
+    let most = dice.below(5).saturating_add(254);
+    plan.extend((0..most).map(|number| Entry::Gate(fan_gate(number))))?;
     if dice.below(3) == 0 {
         let more = fan_gate(dice.below(300));
         plan.push(Entry::Gate(Row {
@@ -37,7 +36,7 @@ pub fn crowded_plan(heap: Global, dice: &mut Dice) -> Result<Vec<Entry>, AllocEr
 // A board of so many spots, with a path of gates whose patterns have any lengths, so that the clock may be long. The
 // lengths do not depend on the number of spots, but for gates that find no spot.
 pub fn slow_plan(heap: Global, dice: &mut Dice, spots: u32) -> Result<Vec<Entry>, AllocError> {
-    let most = dice.number_of(&[3, 4, 6, 40]);
+    let most = dice.one_of(&[3, 4, 6, 40]);
     let mut plan = Vec::new(heap);
     plan.push(Entry::Board { spots })?;
     for from in 0..dice.below(most).min(spots.saturating_sub(1)) {

@@ -1,6 +1,7 @@
 use crate::answer::{Row, Written};
 use crate::dice::Dice;
 use std::alloc::{AllocError, Global};
+use std::fmt;
 
 // A line of a sheet that is not written yet.
 #[derive(Clone, Copy)]
@@ -9,6 +10,54 @@ pub enum Entry {
     Gate(Row),
     Trap { spot: u32 },
     End,
+}
+
+impl Entry {
+    // The number of spots, where it is the board's line.
+    fn board(self) -> Option<u32> {
+        match self {
+            Entry::Board { spots } => Some(spots),
+            _ => None,
+        }
+    }
+
+    // The gate, where it is a gate's line.
+    fn gate(self) -> Option<Row> {
+        match self {
+            Entry::Gate(row) => Some(row),
+            _ => None,
+        }
+    }
+
+    // The spot, where it is a trap's line.
+    fn trap(self) -> Option<u32> {
+        match self {
+            Entry::Trap { spot } => Some(spot),
+            _ => None,
+        }
+    }
+}
+
+impl fmt::Display for Row {
+    // The ends and the pattern, as a line has them.
+    fn fmt<W: fmt::Write>(&self, f: &mut fmt::Formatter<W>) -> fmt::Result {
+        write!(f, "{} {} ", self.from, self.to)?;
+        for step in 0..self.steps {
+            write!(f, "{}", self.bits.wrapping_shr(step) % 2)?;
+        }
+        Ok(())
+    }
+}
+
+impl fmt::Display for Entry {
+    fn fmt<W: fmt::Write>(&self, f: &mut fmt::Formatter<W>) -> fmt::Result {
+        match self {
+            Entry::Board { spots } => writeln!(f, "bd {spots}"),
+            Entry::Gate(row) => writeln!(f, "gt {row}"),
+            Entry::Trap { spot } => writeln!(f, "tr {spot}"),
+            Entry::End => writeln!(f, "en"),
+        }
+    }
 }
 
 // With such a clock a board of 64 spots has 1048576 places, and no board has more.
@@ -30,17 +79,8 @@ fn clash(one: Entry, other: Entry) -> bool {
 
 // Whether the line can follow these.
 fn follows(entry: Entry, plan: &[Entry]) -> bool {
-    if let Entry::Gate(row) = entry
-        && row.from == row.to
-    {
-        return false;
-    }
-    for other in plan {
-        if clash(entry, *other) {
-            return false;
-        }
-    }
-    true
+    !entry.gate().is_some_and(|row| row.from == row.to)
+        && !plan.iter().any(|other| clash(entry, *other))
 }
 
 // A gate with some open step, whose ends may be equal.
@@ -78,9 +118,9 @@ fn some_entry(dice: &mut Dice, spots: u32, clock: u32) -> Entry {
 
 // The lines of a lawful sheet.
 pub fn lawful_plan(heap: Global, dice: &mut Dice) -> Result<Vec<Entry>, AllocError> {
-    let most = dice.number_of(&[2, 6, 16, 64]);
+    let most = dice.one_of(&[2, 6, 16, 64]);
     let spots = dice.below(most).saturating_add(1);
-    let clock = dice.number_of(&CLOCKS);
+    let clock = dice.one_of(&CLOCKS);
     let mut plan = Vec::new(heap);
     plan.push(Entry::Board { spots })?;
     for _ in 0..dice.below(20) {
@@ -95,74 +135,37 @@ pub fn lawful_plan(heap: Global, dice: &mut Dice) -> Result<Vec<Entry>, AllocErr
 
 // Whether a clock fits all the gates.
 fn fits(plan: &[Entry], period: u32) -> bool {
-    for entry in plan {
-        if let Entry::Gate(row) = entry
-            && period.checked_rem(row.steps) != Some(0)
-        {
-            return false;
-        }
-    }
-    true
+    plan.iter()
+        .filter_map(|entry| entry.gate())
+        .all(|row| period.checked_rem(row.steps) == Some(0))
 }
 
 // The first clock that fits all the gates.
 fn period_of(plan: &[Entry]) -> u32 {
-    for period in 1..LONGEST {
-        if fits(plan, period) {
-            return period;
-        }
-    }
-    LONGEST
+    (1..LONGEST)
+        .find(|period| fits(plan, *period))
+        .unwrap_or(LONGEST)
 }
 
 // What the lines of a lawful sheet write.
 pub fn written_by(heap: Global, plan: &[Entry]) -> Result<Written, AllocError> {
-    let mut size = 0;
-    let mut gates = Vec::new(heap);
-    let mut traps = Vec::new(heap);
-    for entry in plan {
-        match *entry {
-            Entry::Board { spots } => size = spots,
-            Entry::Gate(row) => gates.push(row)?,
-            Entry::Trap { spot } => traps.push(spot)?,
-            Entry::End => {}
-        }
-    }
     Ok(Written {
-        spots: size,
+        spots: plan
+            .iter()
+            .filter_map(|entry| entry.board())
+            .last()
+            .unwrap_or(0),
         period: period_of(plan),
-        gates,
-        traps,
+        gates: plan.iter().filter_map(|entry| entry.gate()).collect(heap)?,
+        traps: plan.iter().filter_map(|entry| entry.trap()).collect(heap)?,
     })
-}
-
-fn push_pattern(text: &mut String, row: Row) -> Result<(), AllocError> {
-    for step in 0..row.steps {
-        let is_open = row.bits.wrapping_shr(step) % 2 == 1;
-        text.push(if is_open { '1' } else { '0' })?;
-    }
-    Ok(())
-}
-
-fn push_entry(heap: Global, text: &mut String, entry: Entry) -> Result<(), AllocError> {
-    match entry {
-        Entry::Board { spots } => text.push_str(format!(in heap; "bd {spots}\n")?.as_str()),
-        Entry::Gate(row) => {
-            let (from, to) = (row.from, row.to);
-            text.push_str(format!(in heap; "gt {from} {to} ")?.as_str())?;
-            push_pattern(text, row)?;
-            text.push('\n')
-        }
-        Entry::Trap { spot } => text.push_str(format!(in heap; "tr {spot}\n")?.as_str()),
-        Entry::End => text.push_str("en\n"),
-    }
 }
 
 // The sheet of these lines.
 pub fn text_of(heap: Global, plan: &[Entry]) -> Result<String, AllocError> {
     let mut text = String::new(heap);
     for entry in plan {
-        push_entry(heap, &mut text, *entry)?;
+        write!(text, "{entry}")?;
     }
     Ok(text)
 }

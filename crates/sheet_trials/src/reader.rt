@@ -1,8 +1,8 @@
 use crate::answer::{About, Answer, Row, Stop, Written};
 use crate::clock::joint_clock;
 use crate::grammar::{Field, Place, Sort, Word, after_mark};
-use crate::joined::Joined;
 use std::alloc::Global;
+use std::collections::BTreeSet;
 
 const MOST_SPOTS: u32 = 64;
 
@@ -42,6 +42,11 @@ fn broken<T>(rule: Rule, offset: usize) -> Result<T, Stop> {
     })
 }
 
+// Two spots as a pair, the lower first.
+fn pair(u: u32, v: u32) -> (u32, u32) {
+    (u.min(v), u.max(v))
+}
+
 // An automaton that takes a sheet byte by byte. A line is judged at its last byte.
 #[derive(Drop)]
 struct Reader {
@@ -54,8 +59,8 @@ struct Reader {
     // What the lines before it say; the period is none once it is longer than any board's.
     spots: Option<u32>,
     period: Option<u64>,
-    joined: Joined,
-    trapped: u64,
+    joined: BTreeSet<(u32, u32)>,
+    trapped: BTreeSet<u32>,
     gates: Vec<Row>,
     traps: Vec<u32>,
 }
@@ -70,8 +75,8 @@ impl Reader {
             steps: Word::new(0),
             spots: None,
             period: Some(1),
-            joined: Joined::new(),
-            trapped: 0,
+            joined: BTreeSet::new(heap),
+            trapped: BTreeSet::new(heap),
             gates: Vec::new(heap),
             traps: Vec::new(heap),
         }
@@ -118,7 +123,7 @@ impl Reader {
         if self.steps.value == 0 {
             return broken(Rule::SomeStep, self.steps.offset);
         }
-        if from == to || self.joined.has(from, to) {
+        if from == to || self.joined.contains(&pair(from, to)) {
             return broken(Rule::Once, self.start);
         }
         if self.gates.len() >= MOST_GATES {
@@ -135,7 +140,7 @@ impl Reader {
             bits: self.steps.value,
             steps: self.steps.length,
         };
-        self.joined.join(row.from, row.to);
+        self.joined.insert(pair(row.from, row.to))?;
         if let Some(period) = self.period {
             self.period = joint_clock(period, row.steps);
         }
@@ -148,11 +153,9 @@ impl Reader {
         if spot >= spots {
             return broken(Rule::Range, self.one.offset);
         }
-        let bit = 1u64.wrapping_shl(spot);
-        if self.trapped & bit != 0 {
+        if !self.trapped.insert(spot)? {
             return broken(Rule::Once, self.start);
         }
-        self.trapped |= bit;
         self.traps.push(spot)?;
         Ok(())
     }
@@ -196,7 +199,7 @@ impl Reader {
         }
     }
 
-    // The next byte, which stands at the offset.
+    // The next byte, which stands at the offset. The place is an enum and no closure, which the reader could keep only boxed.
     fn take(&mut self, at: usize, byte: u8) -> Result<(), Stop> {
         match self.place {
             Place::LineStart => {

@@ -6,6 +6,7 @@ use std::test::Fail;
 #[derive(Drop)]
 pub struct Tally {
     read: u32,
+    // An array by number: a map would allocate, and its entries would be no plainer.
     refused: [u32; 11],
 }
 

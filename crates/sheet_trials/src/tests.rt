@@ -18,59 +18,66 @@ const CLOCKS: u64 = 200;
 
 const MOST_SPOTS: u32 = 64;
 
-// Wants that both readers say the same of the lines' sheet, and counts it.
-fn try_plan(rt: &impl Abort, heap: Global, tally: &mut Tally, plan: &[Entry]) -> Result<(), Fail> {
-    let text = text_of(heap, plan)?;
-    tally.count(&agreed(rt, heap, text.as_bytes())?)
-}
-
-// The same for a sheet with damage at the offset.
-fn try_damage(
-    rt: &impl Abort,
+// Sheets that both readers are to say the same of, and how often they were read or refused.
+#[derive(Drop)]
+struct Trial<'a, R> {
+    rt: &'a R,
     heap: Global,
-    tally: &mut Tally,
-    sheet: &[u8],
-    at: usize,
-    damage: Damage,
-) -> Result<(), Fail> {
-    let damaged = damaged_at(heap, sheet, at, damage)?;
-    tally.count(&agreed(rt, heap, damaged.as_slice())?)
+    tally: Tally,
 }
 
-// Boards of every size with the same long clock.
-fn try_sizes(rt: &impl Abort, heap: Global, tally: &mut Tally, seed: u64) -> Result<(), Fail> {
-    for spots in 1..MOST_SPOTS.saturating_add(1) {
-        let mut dice = Dice::new(seed);
-        let plan = slow_plan(heap, &mut dice, spots)?;
-        try_plan(rt, heap, tally, plan.as_slice())?;
+impl<'a, R: Abort> Trial<'a, R> {
+    // No sheet yet.
+    fn new(rt: &'a R, heap: Global) -> Trial<'a, R> {
+        let tally = Tally::new();
+        Trial { rt, heap, tally }
     }
-    Ok(())
-}
 
-// Every damage at one place.
-fn try_place(
-    rt: &impl Abort,
-    heap: Global,
-    tally: &mut Tally,
-    sheet: &[u8],
-    at: usize,
-) -> Result<(), Fail> {
-    try_damage(rt, heap, tally, sheet, at, Damage::Remove)?;
-    try_damage(rt, heap, tally, sheet, at, Damage::Double)?;
-    try_damage(rt, heap, tally, sheet, at, Damage::Cut)?;
-    for byte in BYTES {
-        try_damage(rt, heap, tally, sheet, at, Damage::Replace(byte))?;
-        try_damage(rt, heap, tally, sheet, at, Damage::Insert(byte))?;
+    // One sheet.
+    fn sheet(&mut self, sheet: &[u8]) -> Result<(), Fail> {
+        self.tally.count(&agreed(self.rt, self.heap, sheet)?)
     }
-    Ok(())
-}
 
-// Every damage at every place.
-fn try_places(rt: &impl Abort, heap: Global, tally: &mut Tally, sheet: &[u8]) -> Result<(), Fail> {
-    for at in 0..sheet.len().saturating_add(1) {
-        try_place(rt, heap, tally, sheet, at)?;
+    // The sheet of these lines.
+    fn plan(&mut self, plan: &[Entry]) -> Result<(), Fail> {
+        let text = text_of(self.heap, plan)?;
+        self.sheet(text.as_bytes())
     }
-    Ok(())
+
+    // A sheet with damage at the offset.
+    fn damage(&mut self, sheet: &[u8], at: usize, damage: Damage) -> Result<(), Fail> {
+        let damaged = damaged_at(self.heap, sheet, at, damage)?;
+        self.sheet(damaged.as_slice())
+    }
+
+    // Boards of every size with the same long clock.
+    fn sizes(&mut self, seed: u64) -> Result<(), Fail> {
+        for spots in 1..=MOST_SPOTS {
+            let plan = slow_plan(self.heap, &mut Dice::new(seed), spots)?;
+            self.plan(plan.as_slice())?;
+        }
+        Ok(())
+    }
+
+    // Every damage at one place.
+    fn place(&mut self, sheet: &[u8], at: usize) -> Result<(), Fail> {
+        for damage in [Damage::Remove, Damage::Double, Damage::Cut] {
+            self.damage(sheet, at, damage)?;
+        }
+        for byte in BYTES {
+            self.damage(sheet, at, Damage::Replace(byte))?;
+            self.damage(sheet, at, Damage::Insert(byte))?;
+        }
+        Ok(())
+    }
+
+    // Every damage at every place.
+    fn places(&mut self, sheet: &[u8]) -> Result<(), Fail> {
+        for at in 0..=sheet.len() {
+            self.place(sheet, at)?;
+        }
+        Ok(())
+    }
 }
 
 #[test]
@@ -89,64 +96,52 @@ fn lawful_sheets_are_read(rt: HostRuntime) -> Result<(), Fail> {
 #[test]
 fn damaged_sheets_are_judged_alike(rt: HostRuntime) -> Result<(), Fail> {
     let heap = rt.alloc();
-    let mut tally = Tally::new();
+    let mut trial = Trial::new(&rt, heap);
     for seed in 0..DAMAGED {
-        let mut dice = Dice::new(seed);
-        let sheet = damaged_sheet(heap, &mut dice)?;
-        tally.count(&agreed(&rt, heap, sheet.as_slice())?)?;
+        let sheet = damaged_sheet(heap, &mut Dice::new(seed))?;
+        trial.sheet(sheet.as_slice())?;
     }
-    tally.has_read(&rt, 100);
-    tally.has_refused(&rt, &[3, 4, 5, 6, 7, 8], 100);
+    trial.tally.has_read(&rt, 100);
+    trial.tally.has_refused(&rt, &[3, 4, 5, 6, 7, 8], 100);
     Ok(())
 }
 
 #[test]
 fn every_byte_is_judged_alike(rt: HostRuntime) -> Result<(), Fail> {
-    let heap = rt.alloc();
-    let mut tally = Tally::new();
-    try_places(&rt, heap, &mut tally, b"")?;
-    try_places(&rt, heap, &mut tally, b"bd 1\nen\n")?;
-    try_places(&rt, heap, &mut tally, b"bd 64\ntr 63\ntr 6\nen\n")?;
-    try_places(&rt, heap, &mut tally, b"bd 2\ngt 0 1 01\ntr 1\nen\n")?;
-    try_places(
-        &rt,
-        heap,
-        &mut tally,
-        b"bd 12\ngt 1 11 1\ntr 10\ngt 11 2 010\ntr 1\ngt 2 1 10\nen\n",
-    )?;
-    try_places(
-        &rt,
-        heap,
-        &mut tally,
+    let mut trial = Trial::new(&rt, rt.alloc());
+    trial.places(b"")?;
+    trial.places(b"bd 1\nen\n")?;
+    trial.places(b"bd 64\ntr 63\ntr 6\nen\n")?;
+    trial.places(b"bd 2\ngt 0 1 01\ntr 1\nen\n")?;
+    trial.places(b"bd 12\ngt 1 11 1\ntr 10\ngt 11 2 010\ntr 1\ngt 2 1 10\nen\n")?;
+    trial.places(
         b"bd 21\ngt 0 20 00000000000000000000000000000001\ngt 20 2 1000000000000000000000000000000\nen\n",
     )?;
-    tally.has_read(&rt, 10);
-    tally.has_refused(&rt, &[3, 4, 5, 6, 7, 8], 10);
+    trial.tally.has_read(&rt, 10);
+    trial.tally.has_refused(&rt, &[3, 4, 5, 6, 7, 8], 10);
     Ok(())
 }
 
 #[test]
 fn crowds_of_gates_are_judged_alike(rt: HostRuntime) -> Result<(), Fail> {
     let heap = rt.alloc();
-    let mut tally = Tally::new();
+    let mut trial = Trial::new(&rt, heap);
     for seed in 0..CROWDS {
-        let mut dice = Dice::new(seed);
-        let plan = crowded_plan(heap, &mut dice)?;
-        try_plan(&rt, heap, &mut tally, plan.as_slice())?;
+        let plan = crowded_plan(heap, &mut Dice::new(seed))?;
+        trial.plan(plan.as_slice())?;
     }
-    tally.has_read(&rt, 10);
-    tally.has_refused(&rt, &[6, 8, 9], 5);
+    trial.tally.has_read(&rt, 10);
+    trial.tally.has_refused(&rt, &[6, 8, 9], 5);
     Ok(())
 }
 
 #[test]
 fn long_clocks_are_judged_alike(rt: HostRuntime) -> Result<(), Fail> {
-    let heap = rt.alloc();
-    let mut tally = Tally::new();
+    let mut trial = Trial::new(&rt, rt.alloc());
     for seed in 0..CLOCKS {
-        try_sizes(&rt, heap, &mut tally, seed)?;
+        trial.sizes(seed)?;
     }
-    tally.has_read(&rt, 1000);
-    tally.has_refused(&rt, &[10], 1000);
+    trial.tally.has_read(&rt, 1000);
+    trial.tally.has_refused(&rt, &[10], 1000);
     Ok(())
 }
