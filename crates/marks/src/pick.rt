@@ -34,7 +34,7 @@ fn better<W: Wish>(left: Option<Entry>, right: Option<Entry>) -> Option<Entry>
 #[derive(Clone, Copy)]
 pub struct Pick<W> {
     pub entry: Option<Entry>,
-    wish: PhantomData<W>,
+    pub wish: PhantomData<W>,
 }
 
 // The least mark of a row.
