@@ -1,9 +1,8 @@
 -- Among N places, each count is below N: every smaller count is the mark of some place.
-use Rattle.std.proofs.Common.{◌≡◌, ℕ, zero, suc, ◌+◌, ◌<◌, ◌≤◌, Bool, true, false, cond, T, ltb, ◌⊎◌, sym, refl, ap, ◌∙◌, subst, inl, inr, arith, ltb→lt, lt→ltb}
+use Rattle.std.proofs.Common.{◌≡◌, ℕ, zero, suc, ◌<◌, ◌≤◌, cond, T, ltb, refl, inl, inr, arith, ltb→lt, lt→ltb}
 use native.Mathlib.Decide.{dec_lt}
 use Rattle.std.proofs.lemmas.Bool.Decides.{nat_tests}
-use Rattle.arena.specs.declared.player.Player.TheVariants.{Pursuer, Runner}
-use Rattle.arena.specs.Game.{Rules, degree, move, caught}
+use Rattle.arena.specs.Game.{Rules, move, caught}
 use Rattle.marks.specs.Marks.{never}
 use Rattle.arena.specs.Claims.{Closed}
 use Rattle.arena.specs.TableRules.{TableRules}

@@ -1,9 +1,7 @@
 -- The local rules lift along a covering.
-use Rattle.std.proofs.Common.{◌≡◌, ℕ, zero, suc, ◌+◌, ◌<◌, ◌≤◌, Bool, true, false, T, List, [], ◌∷◌, map, length, get_or, sym, refl, ap, ◌∙◌, subst, arith}
+use Rattle.std.proofs.Common.{◌≡◌, ℕ, suc, ◌<◌, ◌≤◌, Bool, T, List, length, get_or, sym, ap, ◌∙◌, subst, arith}
 use lib.ListN.{length-map}
 use Rattle.std.proofs.lemmas.List.{get_or-map}
-use Rattle.arena.specs.declared.player.Player.{Player}
-use Rattle.arena.specs.declared.player.Player.TheVariants.{Pursuer, Runner}
 use Rattle.arena.specs.Game.{Rules, degree, move}
 use Rattle.marks.specs.Marks.{never}
 use Rattle.arena.specs.Claims.{Closed, Claims}

@@ -1,9 +1,9 @@
 -- Plays, one move longer or shorter at the oldest end.
-use Rattle.std.proofs.Common.{◌≡◌, ℕ, zero, suc, ◌+◌, ◌<◌, ◌≤◌, Bool, true, false, List, [], ◌∷◌, ◌++◌, length, get_or, sym, refl, ap, ◌∙◌, subst, arith, length-append}
+use Rattle.std.proofs.Common.{◌≡◌, ℕ, suc, false, List, [], ◌∷◌, ◌++◌, length, sym, refl, ap, ◌∙◌, subst, arith, length-append}
 use Rattle.arena.specs.declared.player.Player.{Player}
-use Rattle.arena.specs.declared.player.Player.TheVariants.{Pursuer, Runner}
-use Rattle.arena.specs.Game.{Rules, degree, move, Step, caught}
-use Rattle.arena.specs.Plays.{Play, newest, made, From, Strategy, Follows, plan}
+use Rattle.arena.specs.declared.player.Player.TheVariants.{Pursuer}
+use Rattle.arena.specs.Game.{Rules, move, Step, caught}
+use Rattle.arena.specs.Plays.{Play, made, From, Strategy, Follows, plan}
 
 pub play_first : (R : Rules) (p q : ℕ) (h : List ℕ) → Play R h → From q h → caught R p ≡ false → Step R p q → Play R (h ++ (p ∷ []))
 play_first R p q [] pl fr c st = absurd pl

@@ -1,12 +1,10 @@
 -- A finite arena has marks by levels.
-use Rattle.std.proofs.Common.{◌≡◌, ℕ, zero, suc, pred, ◌+◌, ◌<◌, ◌≤◌, Bool, true, false, T, ltb, ◌⊎◌, sym, refl, ap, ◌∙◌, subst, inl, inr, arith, ltb→lt, lt→ltb}
-use native.Mathlib.Decide.{dec_lt, dec_le}
-use Rattle.arena.specs.declared.player.Player.{Player}
-use Rattle.arena.specs.declared.player.Player.TheVariants.{Pursuer, Runner}
+use Rattle.std.proofs.Common.{◌≡◌, ℕ, zero, suc, ◌<◌, ◌≤◌, false, ltb, ◌⊎◌, refl, subst, inl, inr, arith, ltb→lt, lt→ltb}
+use native.Mathlib.Decide.{dec_lt}
 use Rattle.arena.specs.Game.{Rules, degree, move, caught}
 use Rattle.marks.specs.Marks.{never}
 use Rattle.arena.specs.Claims.{Closed}
-use Rattle.arena.specs.Levels.{Grows, Level, First, ByLevels, Nonstop}
+use Rattle.arena.specs.Levels.{Level, First, ByLevels}
 use Rattle.theory.proofs.Plays.{sides, tests, not_both, not_clash}
 use Rattle.theory.proofs.Levels.{level_mono}
 use Rattle.theory.proofs.Sums.{sum, sum_lt, sum_bound}

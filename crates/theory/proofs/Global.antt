@@ -1,14 +1,13 @@
 -- The local rules give the claims.
-use Rattle.std.proofs.Common.{◌≡◌, ℕ, zero, suc, ◌+◌, ◌<◌, ◌≤◌, Bool, true, false, T, ◌⊎◌, List, [], ◌∷◌, length, get_or, sym, refl, ap, ◌∙◌, subst, inl, inr, arith}
+use Rattle.std.proofs.Common.{◌≡◌, ℕ, zero, suc, ◌+◌, ◌<◌, ◌≤◌, Bool, false, T, List, [], ◌∷◌, length, sym, refl, ap, ◌∙◌, subst, inl, inr, arith}
 use native.Mathlib.Decide.{dec_lt, dec_le}
-use Rattle.arena.specs.declared.player.Player.{Player}
 use Rattle.arena.specs.declared.player.Player.TheVariants.{Pursuer, Runner}
 use Rattle.arena.specs.Game.{Rules, degree, move, Step, caught}
 use Rattle.arena.specs.Plays.{Play, newest, made, From, Strategy, Follows, plan, Lawful, Forces}
 use Rattle.marks.specs.Marks.{never}
 use Rattle.arena.specs.Claims.{Closed, Claims}
 use Rattle.arena.specs.TableRules.{TableRules}
-use Rattle.theory.proofs.Plays.{sides, tests, not_both, not_clash, play_more, from_more, follows_more, made_more}
+use Rattle.theory.proofs.Plays.{sides, tests, not_both, play_more, from_more, follows_more, made_more}
 
 module _ (R : Rules) (D : ℕ → Bool) (μ w : ℕ → ℕ) (closed : Closed R D) (rules : TableRules R D μ w) where
   inside : (p : ℕ) → T (D p) → caught R p ≡ false → (q : ℕ) → Step R p q → T (D q)

@@ -1,15 +1,14 @@
 -- The labels of the rounds are the marks.
-use Rattle.std.proofs.Common.{◌≡◌, ℕ, zero, suc, pred, ◌+◌, ◌<◌, ◌≤◌, min, max, Bool, true, false, cond, T, ◌⊎◌, ◌↔◌, List, [], ◌∷◌, length, get_or, sym, refl, ap, ◌∙◌, subst, inl, inr, arith}
+use Rattle.std.proofs.Common.{◌≡◌, ℕ, zero, suc, ◌<◌, ◌≤◌, max, Bool, true, false, T, List, [], ◌∷◌, length, get_or, sym, refl, ap, ◌∙◌, subst, inl, inr, arith}
 use mathlib.Core.Option.{Option, none, some}
 use native.Mathlib.Decide.{dec_lt, dec_le}
-use Rattle.arena.specs.declared.player.Player.{Player}
 use Rattle.arena.specs.declared.player.Player.TheVariants.{Pursuer, Runner}
 use Rattle.arena.specs.Game.{Rules, degree, move, caught}
 use Rattle.marks.specs.Marks.{never}
 use Rattle.arena.specs.Claims.{Closed}
 use Rattle.arena.specs.TableRules.{TableRules}
-use Rattle.arena.specs.Labels.{lesser, greater, least_of, greatest_of, one_more, wanted, label, Settles, Labelled}
-use Rattle.theory.proofs.Plays.{sides, tests, not_both, not_clash}
+use Rattle.arena.specs.Labels.{lesser, greater, least_of, greatest_of, one_more, wanted, label, Labelled}
+use Rattle.theory.proofs.Plays.{sides, tests}
 
 abbrev AtLeast : ℕ → Option ℕ → Type 0
 AtLeast k none = Unit {0}

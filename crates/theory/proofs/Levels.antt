@@ -1,13 +1,12 @@
 -- Marks by levels and the local rules.
-use Rattle.std.proofs.Common.{◌≡◌, ℕ, zero, suc, pred, ◌+◌, ◌<◌, ◌≤◌, Bool, true, false, T, ◌⊎◌, sym, refl, ap, ◌∙◌, subst, inl, inr, arith}
+use Rattle.std.proofs.Common.{◌≡◌, ℕ, zero, suc, ◌<◌, ◌≤◌, Bool, true, false, T, ◌⊎◌, sym, refl, subst, inl, inr, arith}
 use native.Mathlib.Decide.{dec_lt, dec_le}
-use Rattle.arena.specs.declared.player.Player.{Player}
 use Rattle.arena.specs.declared.player.Player.TheVariants.{Pursuer, Runner}
 use Rattle.arena.specs.Game.{Rules, degree, move, caught}
 use Rattle.marks.specs.Marks.{never, none}
 use Rattle.arena.specs.Claims.{Closed}
 use Rattle.arena.specs.TableRules.{TableRules}
-use Rattle.arena.specs.Levels.{Grows, Level, First, ByLevels, CountsAttractor, Nonstop}
+use Rattle.arena.specs.Levels.{Grows, Level, ByLevels, CountsAttractor, Nonstop}
 use Rattle.theory.proofs.Plays.{sides, tests, not_both, not_clash}
 
 -- the first n indices: one at which f is at least k, or none

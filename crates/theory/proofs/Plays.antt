@@ -1,8 +1,8 @@
 -- Plays, one move longer at the newest end.
-use Rattle.std.proofs.Common.{◌≡◌, ℕ, zero, suc, ◌+◌, ◌<◌, ◌≤◌, Bool, true, false, ◌⊎◌, List, [], ◌∷◌, length, get_or, sym, refl, ap, ◌∙◌, subst, inl, inr, arith}
+use Rattle.std.proofs.Common.{◌≡◌, ℕ, suc, Bool, true, false, ◌⊎◌, List, [], ◌∷◌, sym, refl, ◌∙◌, subst, inl, inr}
 use Rattle.arena.specs.declared.player.Player.{Player}
 use Rattle.arena.specs.declared.player.Player.TheVariants.{Pursuer, Runner}
-use Rattle.arena.specs.Game.{Rules, degree, move, Step, caught}
+use Rattle.arena.specs.Game.{Rules, move, Step, caught}
 use Rattle.arena.specs.Plays.{Play, newest, made, From, Strategy, Follows}
 
 pub sides : (s : Player) → (s ≡ Pursuer) ⊎ (s ≡ Runner)

@@ -1,10 +1,10 @@
 -- A level that does not grow holds whatever any level holds.
-use Rattle.std.proofs.Common.{◌≡◌, ℕ, zero, suc, ◌<◌, ◌≤◌, Bool, true, false, T, ltb, ◌⊎◌, inl, inr, arith, ltb→lt, lt→ltb}
-use Rattle.arena.specs.Game.{Game, Rules, degree, move, caught}
+use Rattle.std.proofs.Common.{◌≡◌, ℕ, zero, suc, ◌<◌, false, ltb, inl, inr, arith, ltb→lt, lt→ltb}
+use Rattle.arena.specs.Game.{Game, degree, move, caught}
 use Rattle.arena.specs.Claims.{Closed}
-use Rattle.arena.specs.Levels.{Grows, Level, Nonstop}
-use Rattle.arena.specs.Sound.{PlacesSound, SoundAt}
-use Rattle.theory.proofs.Plays.{tests, not_clash}
+use Rattle.arena.specs.Levels.{Level, Nonstop}
+use Rattle.arena.specs.Sound.{PlacesSound}
+use Rattle.theory.proofs.Plays.{not_clash}
 use Rattle.theory.proofs.Levels.{level_mono}
 
 pub sound_closed : (g : Game) → PlacesSound g → Closed g.rules (λ p. ltb p g.size)
