@@ -1,7 +1,6 @@
 -- Lines: what their marks and fields give.
-use Rattle.std.proofs.Common.{◌≡◌, ℕ, ◌+◌, ◌-◌, ◌<◌, ◌≤◌, List, [], ◌∷◌, ◌++◌, length, get_or, take, drop, IfOk, MatchResult, Ok, Err, Result, sym, refl, ap, ◌∙◌, subst, append_assoc, arith, length-append, take-append-drop, length-take-le}
+use Rattle.std.proofs.Common.{◌≡◌, ℕ, ◌+◌, ◌-◌, List, [], ◌∷◌, ◌++◌, length, take, IfOk, MatchResult, Ok, Err, Result, sym, refl, ap, ◌∙◌, subst, append_assoc, arith, length-append, take-append-drop, length-take-le}
 use Rattle.std.proofs.Math.Seq.{take-append_seam}
-use Rattle.std.proofs.lemmas.List.{drop_more, take_rest}
 use Rattle.std.proofs.lemmas.Result.{MatchResult-weaker}
 use Rattle.std.specs.List.{AllByRecursion}
 use Rattle.lines.specs.declared.line.Line.{Line}
@@ -15,21 +14,9 @@ use Rattle.lines.specs.declared.rest.Found.{Found}
 use Rattle.lines.specs.declared.rest.Rest.{Rest}
 use Rattle.lines.specs.declared.rest.Taken.{Taken}
 use Rattle.lines.proofs.Refusing.{refused_took}
-use Rattle.lines.specs.Grammar.{Kind, Forms, spaced, first, second, kinds, Marked}
-use Rattle.lines.specs.Lines.{mark_of, texts, Formed, line_bytes, entry_of, fields, Laid, LineAt, Answers, start, ahead as left, PartOf}
+use Rattle.lines.specs.Grammar.{Kind, spaced, first, second, kinds, Marked}
+use Rattle.lines.specs.Lines.{mark_of, texts, line_bytes, entry_of, fields, Laid, LineAt, Answers, start, ahead as left, PartOf}
 use Rattle.lines.specs.Reading.{RestOf, Took, shown, ReadsRest, StopsAt, Completes, ReadsAfter}
-
--- the bytes of a mark at the front
-pub marked_from : (m : Mark) (l : List ℕ) → 1 < length l → get_or l 0 0 ≡ first m → get_or l 1 0 ≡ second m → Marked m l (take (length l - 2) (drop 2 l))
-marked_from m l long a b = record {
-  parts = drop_more l 0 0 (omega arith) ∙ (λ i. a i ∷ (drop_more l 1 0 long ∙ (λ j. b j ∷ sym (take_rest l 2) j)) i);
-}
-
--- byte 10 at the front ends the line
-pub reads_end : (s : Rest) → 0 < length s.bytes.now → get_or s.bytes.now 0 0 ≡ 10 → ReadsRest s [] [] (s.at + 1)
-reads_end s some is =
-    let l = s.bytes.now in
-    record { after = drop 1 l; parts = drop_more l 0 0 some ∙ ap (λ b. b ∷ drop 1 l) is; formed = tt; laid = tt; ends = omega arith }
 
 -- one more field ahead
 pub reads_after : (k : Kind) (ks : List Kind) (s : Rest) (t : Taken) (fs : List Part) (next : ℕ) → Took k s t → ReadsRest t.rest ks fs next → ReadsRest s (k ∷ ks) (t.field ∷ fs) next
@@ -73,17 +60,6 @@ module _ (m : Mark) (at : ℕ) (l : List ℕ) (after : Rest) (r : Found) (marked
 
   found_next : r.next ≡ at + length (line_bytes (entry_of r.line))
   found_next = omega (arith, here, h.rest.ends, ap (λ fs. length (spaced fs)) (shown_is r.line))
-
-  -- and it ends within the text
-  pub found_within : r.next - at ≤ length l
-  found_within = omega (arith, ap length found_whole, length-append (line_bytes (entry_of r.line)) h.rest.after, found_next)
-
-  pub found_formed : Formed (entry_of r.line)
-  found_formed =
-      subst (λ x. Forms (kinds x) (texts (entry_of r.line))) (sym h.marked) (subst (Forms (kinds m)) (shown_is r.line) h.rest.formed)
-
-  pub found_laid : Laid (at + 2) (fields r.line)
-  found_laid = subst (λ a. Laid a (fields r.line)) here h.rest.laid
 
   pub found_line : (x : Read) → x.line ≡ r.line → x.next ≡ r.next → x.text.bytes.now ≡ take (r.next - at) l → x.text.offset ≡ at → LineAt at l x
   found_line x line next front offset =
