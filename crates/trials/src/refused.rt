@@ -25,7 +25,7 @@ fn solve_board_leaves_the_table(rt: HostRuntime) -> Result<(), Fail> {
     let arena = Gated::new(heap, board)?;
     let mut short = [7, 8, 9];
     let told = solve_board(heap, &arena, &[1], &mut short).err();
-    assert_eq!(rt; told, Some(BoardRefusal::Misfit(Unfit::Words)));
+    assert_eq!(rt; told, Some(BoardRefusal::Table(Unfit::Words)));
     assert_eq!(rt; told.and_then(|why| why.number()), Some(16));
     assert!(rt; short == [7, 8, 9]);
     let mut table = [7; 32];
