@@ -7,11 +7,6 @@ use Rattle.opening.specs.Rows.{row}
 use Rattle.opening.proofs.Parts.{row_within, part_row, row_length}
 use Rattle.opening.proofs.rows.Rows.start_at.Goals as goal
 
-pub slice_bounds-runner_pick_and_tally-end : goal.slice_bounds-runner_pick_and_tally-end
-slice_bounds-runner_pick_and_tally-end c =
-    let w = row_within c.args.self.now.spots c.args.pursuer _ c.requires c.args.self.now.long in
-    omega arith
-
 pub returns : goal.returns
 returns c =
     let n : ℕ = c.args.self.now.spots in
