@@ -17,6 +17,7 @@ pub fn admitted<A: Arena>(arena: &A, words: usize) -> Result<(), Unfit>
     if words != 2 * size {
         return Err(Unfit::Words);
     }
+    // from a place to a refusal: `map_or` would put the good case first, and read no plainer
     match arena.first_unsound() {
         Some(place) => Err(Unfit::Unsound { place }),
         None => Ok(()),

@@ -20,6 +20,7 @@ fn least_common(a: u64, b: u8) -> u64
 pub(crate) fn period_of(gates: &[Gate]) -> u64
     ensures { Period gates.now result }
 {
+    // a fold would hand its closure a period with no bound, and the least common multiple asks for one
     let mut period = 1;
     for gate in gates {
         period = least_common(period, gate.pattern.steps());

@@ -21,6 +21,7 @@ pub fn check<A: Arena>(arena: &A, table: &[u32]) -> Result<(), CheckRefusal>
     ensures { Verdict (A.Arena.game arena.now) table.now result }
 {
     admitted(arena, table.len())?;
+    // from a place to a refusal: `map_or` would put the good case first, and read no plainer
     match first_fault(arena, table) {
         Some(place) => Err(CheckRefusal::Fault { place }),
         None => Ok(()),

@@ -71,10 +71,8 @@ fn wide(heap: Global) -> Result<Board, Fail> {
 
 // Gates from a spot to every spot above it.
 fn add_gates(draft: &mut Draft, from: u8, pattern: Pattern) -> Result<(), Fail> {
-    for to in 0..23 {
-        if from < to {
-            draft.add(Gate { from, to, pattern })?;
-        }
+    for to in from.saturating_add(1)..23 {
+        draft.add(Gate { from, to, pattern })?;
     }
     Ok(())
 }

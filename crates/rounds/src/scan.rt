@@ -41,7 +41,8 @@ pub(crate) struct View<'a, 't, A: Arena> {
 }
 
 impl<'a, 't, A: Arena> View<'a, 't, A> {
-    // Looks at each move of the place, and joins what it sees. The looks are counted where they are made.
+    // Looks at each move of the place, and joins what it sees. A move is asked for by its position, and the looks are
+    // counted where they are made, as the rules of the project want, so the loop has both numbers.
     fn look_round<W: Wish>(&self) -> Looked
         ensures entry { Picked W.order 0 (seen_row (A.Arena.game self.now.arena.now).rules self.now.cap self.now.table.now self.now.place) result.entry }
         ensures looks { result.looks ≡ degree (A.Arena.game self.now.arena.now).rules self.now.place }

@@ -30,6 +30,7 @@ impl<'b, 't, A: Arena> Trapped<'b, 't, A> {
         if traps.len() != below.size() {
             return Err(TrapRefusal::Length);
         }
+        // from a place to a refusal: `map_or` would put the good case first, and read no plainer
         match first_above(traps, TRAP) {
             Some(place) => Err(TrapRefusal::Byte { place }),
             None => Ok(Trapped { below, traps }),
