@@ -14,8 +14,8 @@ use Rattle.lines.specs.declared.rest.Found.{Found}
 use Rattle.lines.specs.declared.rest.Rest.{Rest}
 use Rattle.lines.specs.declared.rest.Taken.{Taken}
 use Rattle.lines.proofs.Refusing.{refused_took}
-use Rattle.lines.specs.Grammar.{Kind, spaced, first, second, kinds, Marked}
-use Rattle.lines.specs.Lines.{mark_of, texts, line_bytes, entry_of, fields, Laid, LineAt, Answers, start, ahead as left, PartOf}
+use Rattle.lines.specs.Grammar.{Kind, Forms, spaced, first, second, kinds, Marked}
+use Rattle.lines.specs.Lines.{mark_of, texts, line_bytes, entry_of, fields, Formed, Laid, LineAt, Answers, start, ahead as left, PartOf}
 use Rattle.lines.specs.Reading.{RestOf, Took, shown, ReadsRest, StopsAt, Completes, ReadsAfter}
 
 -- one more field ahead
@@ -71,8 +71,8 @@ module _ (m : Mark) (at : ℕ) (l : List ℕ) (after : Rest) (r : Found) (marked
       record {
         after = h.rest.after;
         parts = parts;
-        formed = x.formed;
-        laid = subst (λ a. Laid (a + 2) (fields x.line)) offset x.laid;
+        formed = subst Formed (sym entry) (subst (λ k. Forms (kinds k) (texts (entry_of r.line))) (sym h.marked) (subst (Forms (kinds m)) (shown_is r.line) h.rest.formed));
+        laid = subst (λ k. Laid (at + 2) (fields k)) (sym line) (subst (λ a. Laid a (fields r.line)) here h.rest.laid);
         text = front ∙ ap (λ n. take n l) size ∙ ap (take (length bytes)) parts ∙ take-append_seam bytes h.rest.after;
         offset = offset;
         next = next ∙ ends;

@@ -64,6 +64,6 @@ impl<W> From<TrapRefusal> for BoardRefusal<W> {
     ghost from_gives = { λ why refusal. refusal ≡ Traps why };
 
     fn from(why: TrapRefusal) -> BoardRefusal<W> {
-        BoardRefusal::Traps(why)
+        Self::Traps(why)
     }
 }

@@ -75,6 +75,6 @@ impl From<AllocError> for Failure {
     ghost from_gives = { λ _ failure. failure ≡ NoMemory };
 
     fn from(_error: AllocError) -> Failure {
-        Failure::NoMemory
+        Self::NoMemory
     }
 }

@@ -3,12 +3,11 @@ ghost use Rattle.sheet.specs.Parts.{said, Begun, Next};
 ghost use Rattle.sheet.specs.Readings.{Explains, Reads};
 ghost use Rattle.sheet.specs.Refusals.{told};
 
-use crate::reading::Reading;
+use crate::reading::{InForm, Reading};
 use crate::refusal::Refusal;
 use crate::sheet::Sheet;
 use board::Draft;
-use lines::line::{Line, Read};
-use lines::read::read_line;
+use lines::line::{Line, Read, read_line};
 use std::alloc::Global;
 
 // The line that begins at the offset `at`.
@@ -53,7 +52,7 @@ pub fn read_sheet(heap: Global, sheet: &[u8]) -> Result<Sheet, Refusal>
         if let Line::End = read.line {
             return reading.close(read.next, sheet.len());
         }
-        reading.take(read)?;
+        reading.take(InForm { read })?;
         at = read.next;
     }
 }

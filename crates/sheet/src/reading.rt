@@ -1,5 +1,6 @@
 ghost use Rattle.std.specs.Prelude.{◌≡◌, ◌+◌, [], ◌∷◌};
-ghost use Rattle.lines.specs.Lines.{gate as gate_line, trap as trap_line, entry_of, Formed, Laid};
+ghost use Rattle.lines.specs.Lines.{gate as gate_line, trap as trap_line, entry_of, fields, Formed, Laid};
+ghost use Rattle.lines.specs.Single.{formed_single, laid_single};
 ghost use Rattle.sheet.specs.Parts.{said, gate_refusal, Takes, Ended};
 ghost use Rattle.sheet.specs.Rules.{GoesOn};
 
@@ -10,6 +11,14 @@ use board::draft::refusal::GateRefusal;
 use board::{Draft, Gate, Pattern};
 use lines::line::{Line, Read};
 use lines::part::Part;
+
+// A line that was read: its fields are in form, and lie in its text one after another.
+#[derive(Drop)]
+pub(crate) struct InForm<'a> {
+    pub read: Read<'a>,
+    ghost formed: { Formed (entry_of read.line) } by { formed_single (entry_of read.line) },
+    ghost laid: { Laid (read.text.offset + 2) (fields read.line) } by { laid_single (read.text.offset + 2) (fields read.line) },
+}
 
 // What is read after the board's line.
 #[derive(Drop)]
@@ -76,9 +85,10 @@ impl Reading {
     }
 
     // One line more; the last line adds nothing.
-    pub(crate) fn take(&mut self, read: Read) -> Result<(), Refusal>
-        ensures { GoesOn (entry_of read.entry.line) → Takes (said self.old) read.entry.text.offset (entry_of read.entry.line) (said self.new) result }
+    pub(crate) fn take(&mut self, line: InForm) -> Result<(), Refusal>
+        ensures { GoesOn (entry_of line.entry.read.line) → Takes (said self.old) line.entry.read.text.offset (entry_of line.entry.read.line) (said self.new) result }
     {
+        let InForm { read } = line;
         let at = read.text.offset;
         match read.line {
             Line::Board { .. } => Err(Refusal::Misplaced { offset: at }),

@@ -47,7 +47,9 @@ fn round_leaves(
     marks: &[u32],
 ) -> bool {
     let made = round_table(arena, table, round);
-    made.is_ok_and(|made| made.marked == marked) && table.get(0..16) == Some(marks)
+    made.is_ok_and(|made| made.marked == marked)
+        && table.len() == 32
+        && table.get(0..16) == Some(marks)
 }
 
 #[test]
