@@ -1,7 +1,6 @@
-use crate::answer::{About, Answer, Row, Stop, Written};
+use crate::answer::{Answer, Row, Stop, Written};
 use crate::reader::second_answer;
 use board::Gate;
-use lines::refusal::Layer;
 use sheet::read::read_sheet;
 use sheet::refusal::Refusal;
 use sheet::sheet::Sheet;
@@ -25,26 +24,9 @@ impl<'a> From<&'a Gate> for Row {
     }
 }
 
-impl From<Layer> for About {
-    fn from(layer: Layer) -> About {
-        match layer {
-            Layer::Line => About::Line,
-            Layer::Pattern => About::Pattern,
-            Layer::Board => About::Board,
-        }
-    }
-}
-
 impl From<Refusal> for Stop {
     fn from(why: Refusal) -> Stop {
-        why.told().map_or(
-            Stop::NoMemory,
-            |told| Stop::Broken {
-                number: told.number,
-                offset: told.offset,
-                about: About::from(told.layer),
-            },
-        )
+        why.told().map_or(Stop::NoMemory, Stop::Broken)
     }
 }
 

@@ -1,12 +1,5 @@
+use lines::refusal::Told;
 use std::alloc::{AllocError, AllocFailed};
-
-// What a broken rule is about.
-#[derive(Clone, Copy, PartialEq, Eq, Debug)]
-pub enum About {
-    Line,
-    Pattern,
-    Board,
-}
 
 // A gate's ends, its open steps as bits, the first the lowest, and how many steps it has.
 #[derive(Clone, Copy, PartialEq, Eq, Debug)]
@@ -15,6 +8,11 @@ pub struct Row {
     pub to: u32,
     pub bits: u32,
     pub steps: u32,
+}
+
+// Two spots as a pair, the lower first.
+pub fn pair(u: u32, v: u32) -> (u32, u32) {
+    (u.min(v), u.max(v))
 }
 
 // What a sheet writes.
@@ -29,11 +27,7 @@ pub struct Written {
 // Why a sheet is not read.
 #[derive(Clone, Copy, PartialEq, Eq, Debug)]
 pub enum Stop {
-    Broken {
-        number: u8,
-        offset: usize,
-        about: About,
-    },
+    Broken(Told),
     NoMemory,
 }
 

@@ -23,7 +23,7 @@ impl Dice {
 
     // A number below `limit`, or 0 where that is 0.
     pub fn below(&mut self, limit: u32) -> u32 {
-        let number = self.roll() % limit.max(1) as u64;
+        let number = self.roll() % u64::from(limit.max(1));
         number as u32
     }
 

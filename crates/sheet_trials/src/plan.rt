@@ -1,4 +1,4 @@
-use crate::answer::{Row, Written};
+use crate::answer::{Row, Written, pair};
 use crate::dice::Dice;
 use std::alloc::{AllocError, Global};
 use std::fmt;
@@ -69,9 +69,7 @@ const CLOCKS: [u32; 10] = [1, 2, 7, 12, 30, 31, 32, 60, 96, 120];
 // Whether two lines cannot both stand in a sheet.
 fn clash(one: Entry, other: Entry) -> bool {
     match (one, other) {
-        (Entry::Gate(a), Entry::Gate(b)) => {
-            a.from == b.from && a.to == b.to || a.from == b.to && a.to == b.from
-        }
+        (Entry::Gate(a), Entry::Gate(b)) => pair(a.from, a.to) == pair(b.from, b.to),
         (Entry::Trap { spot: a }, Entry::Trap { spot: b }) => a == b,
         _ => false,
     }

@@ -1,6 +1,7 @@
-use crate::answer::{About, Answer, Row, Stop, Written};
+use crate::answer::{Answer, Row, Stop, Written, pair};
 use crate::clock::joint_clock;
 use crate::grammar::{Field, Place, Sort, Word, after_mark};
+use lines::refusal::{Layer, Told};
 use std::alloc::Global;
 use std::collections::BTreeSet;
 
@@ -25,26 +26,21 @@ enum Rule {
 
 // The answer that the rule is broken at the offset.
 fn broken<T>(rule: Rule, offset: usize) -> Result<T, Stop> {
-    let (number, about) = match rule {
-        Rule::SomeStep => (3, About::Pattern),
-        Rule::Mark => (4, About::Line),
-        Rule::Form => (5, About::Line),
-        Rule::Order => (6, About::Board),
-        Rule::Range => (7, About::Board),
-        Rule::Once => (8, About::Board),
-        Rule::Gates => (9, About::Board),
-        Rule::Places => (10, About::Board),
+    let (number, layer) = match rule {
+        Rule::SomeStep => (3, Layer::Pattern),
+        Rule::Mark => (4, Layer::Line),
+        Rule::Form => (5, Layer::Line),
+        Rule::Order => (6, Layer::Board),
+        Rule::Range => (7, Layer::Board),
+        Rule::Once => (8, Layer::Board),
+        Rule::Gates => (9, Layer::Board),
+        Rule::Places => (10, Layer::Board),
     };
-    Err(Stop::Broken {
+    Err(Stop::Broken(Told {
         number,
         offset,
-        about,
-    })
-}
-
-// Two spots as a pair, the lower first.
-fn pair(u: u32, v: u32) -> (u32, u32) {
-    (u.min(v), u.max(v))
+        layer,
+    }))
 }
 
 // An automaton that takes a sheet byte by byte. A line is judged at its last byte.
@@ -82,22 +78,18 @@ impl Reader {
         }
     }
 
-    // The characters of the field so far.
-    fn word(&self, field: Field) -> Word {
+    // The field's characters so far.
+    fn slot(&mut self, field: Field) -> &mut Word {
         match field {
-            Field::Spots | Field::From | Field::Trap => self.one,
-            Field::To => self.two,
-            Field::Pattern => self.steps,
+            Field::Spots | Field::From | Field::Trap => &mut self.one,
+            Field::To => &mut self.two,
+            Field::Pattern => &mut self.steps,
         }
     }
 
     // Goes on with a field that has come so far.
     fn put(&mut self, field: Field, word: Word) {
-        match field {
-            Field::Spots | Field::From | Field::Trap => self.one = word,
-            Field::To => self.two = word,
-            Field::Pattern => self.steps = word,
-        }
+        *self.slot(field) = word;
         self.place = word.next(field);
     }
 
@@ -215,7 +207,10 @@ impl Reader {
                 None => broken(Rule::Mark, self.start),
             },
             Place::First(field) => self.character(field, Word::new(at), at, byte),
-            Place::More(field) => self.character(field, self.word(field), at, byte),
+            Place::More(field) => {
+                let word = *self.slot(field);
+                self.character(field, word, at, byte)
+            }
             Place::Over => broken(Rule::Order, at),
             place => self.part(place, at, byte),
         }

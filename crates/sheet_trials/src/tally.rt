@@ -1,4 +1,6 @@
 use crate::answer::{Answer, Stop};
+use std::alloc::Global;
+use std::collections::BTreeMap;
 use std::process::Abort;
 use std::test::Fail;
 
@@ -6,15 +8,14 @@ use std::test::Fail;
 #[derive(Drop)]
 pub struct Tally {
     read: u32,
-    // An array by number: a map would allocate, and its entries would be no plainer.
-    refused: [u32; 11],
+    refused: BTreeMap<u8, u32>,
 }
 
 impl Tally {
-    pub fn new() -> Tally {
+    pub fn new(heap: Global) -> Tally {
         Tally {
             read: 0,
-            refused: [0; 11],
+            refused: BTreeMap::new(heap),
         }
     }
 
@@ -22,10 +23,9 @@ impl Tally {
     pub fn count(&mut self, answer: &Answer) -> Result<(), Fail> {
         match answer {
             Ok(_) => self.read = self.read.saturating_add(1),
-            Err(Stop::Broken { number, .. }) => {
-                if let Some(times) = self.refused.get_mut(usize::from(*number)) {
-                    *times = times.saturating_add(1);
-                }
+            Err(Stop::Broken(told)) => {
+                let times = self.refused.entry(told.number)?.or_insert(0);
+                *times = times.saturating_add(1);
             }
             Err(Stop::NoMemory) => return Err(Fail::new("no memory")),
         }
@@ -39,9 +39,9 @@ impl Tally {
     }
 
     // Wants that each of these refusals was told so often.
-    pub fn has_refused(&self, rt: &impl Abort, numbers: &[usize], least: u32) {
+    pub fn has_refused(&self, rt: &impl Abort, numbers: &[u8], least: u32) {
         for number in numbers {
-            let times = self.refused.get(*number).copied().unwrap_or(0);
+            let times = self.refused.get(number).copied().unwrap_or(0);
             assert!(rt; times >= least, "refusal {number}, {times} times");
         }
     }

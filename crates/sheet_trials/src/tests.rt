@@ -29,7 +29,7 @@ struct Trial<'a, R> {
 impl<'a, R: Abort> Trial<'a, R> {
     // No sheet yet.
     fn new(rt: &'a R, heap: Global) -> Trial<'a, R> {
-        let tally = Tally::new();
+        let tally = Tally::new(heap);
         Trial { rt, heap, tally }
     }
 
