@@ -29,7 +29,7 @@ impl<'a> Rows<'a> {
         }
         Ok(Rows {
             marks: words,
-            spots: board.spots() as usize,
+            spots: usize::from(board.spots()),
         })
     }
 

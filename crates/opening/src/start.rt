@@ -26,7 +26,8 @@ pub fn opening_of(board: &Board, finished: &Finished) -> Result<Opening, Opening
 {
     let rows = Rows::of(board, finished.words())?;
     let mut best = rows.start_at(0);
-    // a fold would ask its closure for a spot below the number of rows, and read no plainer
+    // `min_by_key` promises that no start is better than its own, and not that its own is the first of the best; a fold would read
+    // no plainer
     for pursuer in 1..rows.spots() {
         let next = rows.start_at(pursuer);
         if next.mark < best.mark {

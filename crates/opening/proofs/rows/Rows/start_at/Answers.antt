@@ -4,7 +4,7 @@ use Rattle.marks.specs.Tallies.{Tallied}
 use Rattle.marks.specs.Unique.{TheOne}
 use Rattle.marks.proofs.Picks.{picked_index}
 use Rattle.opening.specs.Rows.{row}
-use Rattle.opening.proofs.Parts.{row_within, part_row, row_length}
+use Rattle.opening.proofs.Parts.{part_row, row_length}
 use Rattle.opening.proofs.rows.Rows.start_at.Goals as goal
 
 pub returns : goal.returns
