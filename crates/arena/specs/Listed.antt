@@ -3,7 +3,8 @@ use Rattle.std.specs.Prelude.{◌≡◌, ℕ, ◌+◌, ◌-◌, ◌<◌, ◌≤�
 use Rattle.arena.specs.Bytes.{AllUpTo, FirstAbove}
 use Rattle.arena.specs.Causes.{CausesExclude}
 use Rattle.arena.specs.Game.{Game}
-use Rattle.arena.specs.Kind.{is_capture_kind, owner_of}
+use Rattle.arena.specs.Kind.{is_capture_kind}
+pub use Rattle.arena.specs.Kind.{owner_of}
 use Rattle.arena.specs.declared.listing_refusal.ListingRefusal.{ListingRefusal}
 use Rattle.arena.specs.declared.listing_refusal.ListingRefusal.TheVariants.{Kind, Starts}
 

@@ -6,12 +6,17 @@ use Rattle.board.specs.declared.draft.refusal.GateRefusal.{GateRefusal}
 use Rattle.board.specs.declared.draft.refusal.GateRefusal.TheVariants.{OffBoard, EqualEnds, RepeatedPair, TooMany, NoMemory}
 
 -- the number of each refusal, and its values; want of memory has no number
-abbrev pub told : GateRefusal → Option (ℕ × List ℕ)
-told OffBoard = Some (7, [])
-told EqualEnds = Some (8, [])
-told RepeatedPair = Some (8, [])
-told TooMany = Some (9, [])
-told NoMemory = None
+abbrev pub told : GateRefusal → ℕ × List ℕ
+told OffBoard = (7, [])
+told EqualEnds = (8, [])
+told RepeatedPair = (8, [])
+told TooMany = (9, [])
+told NoMemory = (0, [])
+
+-- the same, with nothing in place of the 0 that stands for no number
+abbrev pub rule_told : GateRefusal → Option (ℕ × List ℕ)
+rule_told NoMemory = None
+rule_told why = Some (told why)
 
 -- both ends are below n
 abbrev pub EndsBelow : ℕ → Gate → Type 0

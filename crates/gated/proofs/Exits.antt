@@ -34,6 +34,13 @@ pub exits_in : (n t spot : ℕ) (gates : List Gate) → all_join n gates ≡ tru
     → (j : ℕ) → j < length (exits_at gates t spot) → get_or (exits_at gates t spot) j 0 < n
 exits_in n t spot gates h s j l = All-get_or (λ e. e < n) (exits_at gates t spot) j 0 l (s, fars_in n t spot gates h)
 
+-- so is one that is read of a list of these exits
+pub read_below : (n t spot : ℕ) (gates : List Gate) → all_join n gates ≡ true → spot < n
+    → (xs : List ℕ) (j to : ℕ) → xs ≡ exits_at gates t spot → j < length xs → to ≡ get_or xs j 0 → to < n
+read_below n t spot gates h s xs j to same l is =
+    let here : get_or xs j 0 ≡ get_or (exits_at gates t spot) j 0 = ap (λ ys. get_or ys j 0) same in
+    omega (arith, exits_in n t spot gates h s j (omega (arith, l, ap length same)), is, here)
+
 fars_few : (t spot : ℕ) (gates : List Gate) → length (fars t spot gates) ≤ length gates
 fars_few t spot [] = omega arith
 fars_few t spot (g ∷ gs) =

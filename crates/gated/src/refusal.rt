@@ -1,4 +1,4 @@
-ghost use Rattle.gated.specs.TrapRefused.{told};
+ghost use Rattle.gated.specs.TrapRefused.{rule_told, told};
 ghost use Rattle.gated.specs.declared.refusal.TrapRefusal.TheVariants.{NoMemory};
 ghost use Rattle.std.specs.Option.{option_map};
 ghost use Rattle.std.specs.Prelude.{◌≡◌};
@@ -15,13 +15,23 @@ pub enum TrapRefusal {
 }
 
 impl TrapRefusal {
-    // The refusal's number; want of memory has none.
-    pub fn number(self) -> Option<u8>
-        ensures { result ≡ option_map (λ t. t.0) (told self) }
+    // The refusal's number, plain as that of every other refusal; 0 for want of memory, which has none.
+    pub fn number(self) -> u8
+        ensures { result ≡ (told self).0 }
     {
         match self {
-            TrapRefusal::OffBoard => Some(21),
+            TrapRefusal::OffBoard => 21,
+            TrapRefusal::NoMemory => 0,
+        }
+    }
+
+    // The number of the rule that is broken; want of memory breaks none.
+    pub fn rule_number(self) -> Option<u8>
+        ensures { result ≡ option_map (λ t. t.0) (rule_told self) }
+    {
+        match self {
             TrapRefusal::NoMemory => None,
+            _ => Some(self.number()),
         }
     }
 }

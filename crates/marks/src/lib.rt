@@ -3,7 +3,9 @@
 
 pub mod mark;
 pub mod pick;
+pub mod pursuer;
 pub mod row;
+pub mod runner;
 pub mod tally;
 #[cfg(test)]
 mod tests;

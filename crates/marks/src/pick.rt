@@ -31,7 +31,7 @@ fn better<W: Wish>(left: Option<Entry>, right: Option<Entry>) -> Option<Entry>
 }
 
 // The entry of a row that is picked by a wish, if the row has any: the best mark, at its first position.
-#[derive(Clone, Copy)]
+#[derive(Clone, Copy, PartialEq, Eq, Debug)]
 pub struct Pick<W> {
     pub entry: Option<Entry>,
     pub wish: PhantomData<W>,

@@ -1,10 +1,10 @@
-ghost use Rattle.marks.specs.Picks.{Greatest, Picked};
+ghost use Rattle.marks.specs.Picks.{Greatest, Least, Picked};
 ghost use Rattle.marks.specs.Tallies.{Tallied};
 ghost use Rattle.marks.specs.Unique.{TheOne};
 
-use crate::pick::{Pick, RunnerPick};
+use crate::pick::{Pick, PursuerPick, RunnerPick};
 use crate::tally::Tally;
-use crate::wish::Wish;
+use crate::wish::{self, Wish};
 use joining::pair::Pair;
 use joining::row::{fold_both, fold_row};
 
@@ -13,6 +13,20 @@ pub fn pick<W: Wish>(row: &[u32], first: u64) -> Pick<W>
     ensures { TheOne (Picked W.order first row.now) result.entry }
 {
     fold_row(row, first)
+}
+
+// The least mark of the row, at its first position; positions go on likewise.
+pub fn pursuer_pick(row: &[u32], first: u64) -> PursuerPick
+    ensures { TheOne (Picked Least first row.now) result.entry }
+{
+    pick::<wish::Least>(row, first)
+}
+
+// The greatest mark of the row, at its first position; positions go on likewise.
+pub fn runner_pick(row: &[u32], first: u64) -> RunnerPick
+    ensures { TheOne (Picked Greatest first row.now) result.entry }
+{
+    pick::<wish::Greatest>(row, first)
 }
 
 // How many marks of each kind the row has, and its longest count.

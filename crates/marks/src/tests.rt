@@ -1,6 +1,6 @@
 use crate::mark::{BLANK, NEVER};
 use crate::pick::{Entry, PursuerPick, RunnerPick};
-use crate::row::{pick, runner_pick_and_tally, tally};
+use crate::row::{pick, pursuer_pick, runner_pick, runner_pick_and_tally, tally};
 use crate::tally::Tally;
 use crate::wish::{Greatest, Least};
 use joining::joining::Joining;
@@ -23,15 +23,15 @@ fn tally_of(capture: u32, counted: u32, never: u32, longest: u32) -> Tally {
 #[test]
 fn ties_keep_the_left(rt: HostRuntime) {
     let row = [7, 3, 9, 3, 9];
-    assert_eq!(rt; pick::<Least>(&row, 0).entry, at(3, 1));
-    assert_eq!(rt; pick::<Greatest>(&row, 0).entry, at(9, 2));
+    assert_eq!(rt; pursuer_pick(&row, 0).entry, at(3, 1));
+    assert_eq!(rt; runner_pick(&row, 0).entry, at(9, 2));
 }
 
 #[test]
 fn blanks_and_nevers_compare_as_numbers(rt: HostRuntime) {
     let row = [NEVER, BLANK, NEVER, BLANK];
-    assert_eq!(rt; pick::<Least>(&row, 0).entry, at(BLANK, 1));
-    assert_eq!(rt; pick::<Greatest>(&row, 0).entry, at(NEVER, 0));
+    assert_eq!(rt; pursuer_pick(&row, 0).entry, at(BLANK, 1));
+    assert_eq!(rt; runner_pick(&row, 0).entry, at(NEVER, 0));
 }
 
 #[test]
@@ -45,7 +45,7 @@ fn short_rows(rt: HostRuntime) {
 #[test]
 fn positions_wrap(rt: HostRuntime) {
     let last = u64::MAX;
-    assert_eq!(rt; pick::<Least>(&[5, 4, 4], last).entry, at(4, 0));
+    assert_eq!(rt; pursuer_pick(&[5, 4, 4], last).entry, at(4, 0));
     let parts: PursuerPick = fold_parts(&[5, 6], &[6, 4], last);
     assert_eq!(rt; parts.entry, at(4, 2));
 }

@@ -10,7 +10,7 @@ pub trait Wish: Sized + Copy {
 }
 
 // The least mark is best: the pursuer's wish.
-#[derive(Clone, Copy)]
+#[derive(Clone, Copy, PartialEq, Eq, Debug)]
 pub struct Least;
 
 impl Wish for Least {
@@ -22,7 +22,7 @@ impl Wish for Least {
 }
 
 // The greatest mark is best: the runner's wish.
-#[derive(Clone, Copy)]
+#[derive(Clone, Copy, PartialEq, Eq, Debug)]
 pub struct Greatest;
 
 impl Wish for Greatest {

@@ -2,6 +2,7 @@
 #![tactic(auto)]
 
 pub mod check_board;
+pub mod fault;
 pub mod refusal;
 pub mod solve_board;
 mod trapped;

@@ -1,6 +1,6 @@
 ghost use Rattle.arena.specs.Unfit.{told as told_unfit};
 ghost use Rattle.checker.specs.Verdicts.{told as told_table};
-ghost use Rattle.pursuit.specs.Refused.{told};
+ghost use Rattle.pursuit.specs.Refused.{rule_told, told};
 ghost use Rattle.pursuit.specs.declared.refusal.BoardRefusal.TheVariants.{Traps};
 ghost use Rattle.std.specs.Option.{option_map};
 ghost use Rattle.std.specs.Prelude.{◌≡◌, ℕ, List};
@@ -48,12 +48,22 @@ pub enum BoardRefusal<W> {
 pub type BoardFault = BoardRefusal<CheckRefusal>;
 
 impl<W: Numbered> BoardRefusal<W> {
-    // The refusal's number; want of memory has none.
-    pub fn number(self) -> Option<u8>
-        ensures { result ≡ option_map (λ t. t.0) (told W.told self) }
+    // The refusal's number, plain as that of every other refusal; 0 for want of memory, which has none.
+    pub fn number(self) -> u8
+        ensures { result ≡ (told W.told self).0 }
     {
         match self {
             BoardRefusal::Traps(why) => why.number(),
+            BoardRefusal::Table(why) => why.number(),
+        }
+    }
+
+    // The number of the rule that is broken; want of memory breaks none.
+    pub fn rule_number(self) -> Option<u8>
+        ensures { result ≡ option_map (λ t. t.0) (rule_told W.told self) }
+    {
+        match self {
+            BoardRefusal::Traps(why) => why.rule_number(),
             BoardRefusal::Table(why) => Some(why.number()),
         }
     }

@@ -13,6 +13,7 @@ use solver::solve::solve_to_read;
 use std::alloc::Global;
 
 // Solves a board with traps on spots into the table, and gives it back finished, to read.
+#[tactic(auto, using(crate::proofs::Claiming::whole_claim))]
 pub fn solve_board<'a>(
     heap: Global,
     arena: &Gated,

@@ -1,9 +1,9 @@
 -- Gates and traps: what their lines and the draft of a board say of each other.
 use Rattle.std.proofs.Common.{◌≡◌, ℕ, ◌<◌, false, ◌&&◌, eqb, ◌⊎◌, List, [], ◌∷◌, ◌++◌, length, get_or, Some, Ok, Err, Result, MatchResult, Decides, sym, refl, ap, ◌∙◌, subst, inl, inr, add-zero, arith}
 use Rattle.std.proofs.ByRecursion.{All-get_or, All-from_get_or}
-use Rattle.std.proofs.lemmas.Bool.{both_ways, eq-eqb}
+use Rattle.std.proofs.lemmas.Bool.{both_ways, eq-eqb, false≢true}
 use Rattle.std.proofs.lemmas.Bool.Decides.{Decides-eqb, Decides-and, Decides-or, not_from_Decides}
-use Rattle.std.specs.List.{AllByRecursion}
+use Rattle.std.specs.List.{AllWithin, AllByRecursion}
 use Rattle.board.proofs.SetBits.{within_below}
 use Rattle.board.specs.declared.draft.refusal.GateRefusal.{GateRefusal}
 use Rattle.board.specs.declared.draft.refusal.GateRefusal.TheVariants.{OffBoard, EqualEnds, RepeatedPair, TooMany, NoMemory}
@@ -15,13 +15,13 @@ use Rattle.board.specs.Gates.{same_pair, repeats}
 use Rattle.board.specs.PatternRefused.{Cause as PatternCause}
 use Rattle.board.specs.Patterns.{bit, Lawful as LawfulPattern}
 use Rattle.lines.specs.Grammar.{Pattern, Byte, FieldOf}
-use Rattle.lines.specs.Lines.{gate}
+use Rattle.lines.specs.Lines.{gate, trap}
 use Rattle.lines.specs.Values.{decimal, bits, bit as character_bit, Stepped}
 use Rattle.sheet.specs.declared.refusal.Refusal.{Refusal}
 use Rattle.sheet.specs.Parts.{gate_refusal, TurnedDown, Takes}
 use Rattle.sheet.specs.Refusals.{board_rule, told}
 use Rattle.sheet.specs.Rules.{Joined, breaches, Clean}
-use Rattle.sheet.specs.Says.{row, row_of, rows}
+use Rattle.sheet.specs.Says.{Row, row, row_of, rows}
 
 pub length_rows : (gs : List Gate) → length (rows gs) ≡ length gs
 length_rows [] = refl
@@ -90,6 +90,11 @@ cause_told n gs ts g u v p at RepeatedPair from to a b opens h =
 cause_told n gs ts g u v p at TooMany from to a b opens h =
     inr (λ k. omega arith, inr (λ k. omega arith, inr (opens, inr (not_joined g gs (decimal u) (decimal v) from to h.1 h.2, inl (omega (arith, h.3, length_rows gs), ap (board_rule 9) (sym (add-zero at)))))))
 cause_told n gs ts g u v p at NoMemory from to a b opens h = (fits_clean n gs ts g u v p from to opens h, tt)
+
+-- a trap on a spot that has none breaks no rule
+pub trap_clean : (n : ℕ) (rs : List Row) (ts : List ℕ) (v : List ℕ) (w : ℕ) → w ≡ decimal v → w < n → AllWithin (λ x. eqb x w ≡ false) ts 0 (length ts) → Clean (breaches (Some (record { spots = n; gates = rs; traps = ts })) (trap v) [])
+trap_clean n rs ts v w is below new =
+    (λ h. omega arith, (λ has. false≢true (sym (new has.0 0 (omega arith) has.1) ∙ eq-eqb (get_or ts has.0 0) w (has.2 0 ∙ sym is)), tt))
 
 -- what a draft answers for a gate, and with it the reader for the gate's line
 pub gate_taken : (n n' : ℕ) (gs gs' : List Gate) (ts : List ℕ) (g : Gate) (u v p : List ℕ) (at : ℕ) (drafted : Result (Unit {0}) GateRefusal) (r : Result (Unit {0}) Refusal) → g.from ≡ decimal u → g.to ≡ decimal v → row_of g ≡ row u v p → decimal u < n → decimal v < n → (AllByRecursion (λ b. b ≡ 48) p → ⊥) → n' ≡ n → MatchResult drafted (λ _. Fits n gs g × (gs' ≡ gs ++ (g ∷ []))) (λ why. Cause n gs g why × (gs' ≡ gs)) → MatchResult drafted (λ x. r ≡ Ok x) (λ why. r ≡ Err (gate_refusal why at)) → Takes (record { spots = n; gates = rows gs; traps = ts }) at (gate u v p) (record { spots = n'; gates = rows gs'; traps = ts }) r

@@ -1,4 +1,4 @@
-ghost use Rattle.board.specs.GateRefused.{told as gate_told};
+ghost use Rattle.board.specs.GateRefused.{rule_told, told as gate_told};
 ghost use Rattle.board.specs.SpotsRefused.{told as spots_told};
 ghost use Rattle.board.specs.declared.draft.refusal.GateRefusal.TheVariants.{NoMemory};
 ghost use Rattle.std.specs.Option.{option_map};
@@ -41,15 +41,25 @@ pub enum GateRefusal {
 }
 
 impl GateRefusal {
-    // The refusal's number; want of memory has none.
-    pub fn number(self) -> Option<u8>
-        ensures { result ≡ option_map (λ t. t.0) (gate_told self) }
+    // The refusal's number, plain as that of every other refusal; 0 for want of memory, which has none.
+    pub fn number(self) -> u8
+        ensures { result ≡ (gate_told self).0 }
     {
         match self {
-            GateRefusal::OffBoard => Some(7),
-            GateRefusal::EqualEnds | GateRefusal::RepeatedPair => Some(8),
-            GateRefusal::TooMany => Some(9),
+            GateRefusal::OffBoard => 7,
+            GateRefusal::EqualEnds | GateRefusal::RepeatedPair => 8,
+            GateRefusal::TooMany => 9,
+            GateRefusal::NoMemory => 0,
+        }
+    }
+
+    // The number of the rule that is broken; want of memory breaks none.
+    pub fn rule_number(self) -> Option<u8>
+        ensures { result ≡ option_map (λ t. t.0) (rule_told self) }
+    {
+        match self {
             GateRefusal::NoMemory => None,
+            _ => Some(self.number()),
         }
     }
 }

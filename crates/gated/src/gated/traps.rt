@@ -31,10 +31,9 @@ impl Gated {
         ensures { IfOk result (λ v. v.items ≡ trap_bytes (spots_of (board_of self.now)) (period_of (board_of self.now)) traps.now) }
     {
         let row = spot_bytes(heap, traps, self.board.spots())?;
-        let n = u32::from(self.board.spots());
-        (0..self.board.places())
-            .map(|place| row[(place % n) as usize])
-            .collect(heap)
+        // where the runner stands counts fastest, so the row comes again and again; a remainder for each place is slower
+        let rows = self.board.places() / u32::from(self.board.spots());
+        row.repeat(heap, rows as usize)
     }
 
     // The trap bytes of traps on spots, or why there are none.

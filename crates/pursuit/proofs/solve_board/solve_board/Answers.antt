@@ -1,18 +1,11 @@
 use Rattle.std.proofs.Common.{length, ◌∙◌}
 use Rattle.arena.specs.Unfit.{Cause}
 use Rattle.pursuit.specs.Solved.{trapped_game}
-use Rattle.pursuit.proofs.Claiming.{whole_claim}
 use Rattle.pursuit.proofs.Laid.{bytes_lawful, laid_game, SolvesBoard, board_solved, refused}
 use Rattle.pursuit.proofs.solve_board.solve_board.Goals as goal
 
 pub under_traps-trapped-requires : goal.under_traps-trapped-requires
 under_traps-trapped-requires c = bytes_lawful c.args.arena.now.board c.args.traps.now _ (c.as_slice.ensures.value ∙ c.in_ok-bytes.ensures.1)
-
-pub returns-in_err-bytes-clause-claim : goal.returns-in_err-bytes-clause-claim
-returns-in_err-bytes-clause-claim c = whole_claim
-
-pub returns-clause-claim : goal.returns-clause-claim
-returns-clause-claim c = whole_claim
 
 pub returns-clause-solved : goal.returns-clause-solved
 returns-clause-solved c =

@@ -1,7 +1,6 @@
-use Rattle.std.proofs.Common.{◌∙◌, get_or, length, ap, arith}
 use Rattle.board.specs.Boards.{gates_of}
 use Rattle.gated.specs.Parted.{spot_of}
-use Rattle.gated.proofs.Exits.{exits_in}
+use Rattle.gated.proofs.Exits.{read_below}
 use Rattle.gated.proofs.Numbers.{mover_in, on_board}
 use Rattle.gated.proofs.gated.asked.GatedArena.move_at.Goals as goal
 
@@ -18,5 +17,4 @@ moved-requires-clause-to_bound c =
     let on = on_board b _ q c.in_ok-at.ensures in
     let found = c.in_ok-to.ensures.lookup.3 in
     let here = mover_in b.draft.spots q.turn q.pursuer q.runner on.pursuer on.runner in
-    let below = exits_in b.draft.spots q.step (spot_of q) (gates_of b) b.draft.lawful.1 here c.args.position (omega (arith, found.0, ap length c.exits.ensures)) in
-    omega (arith, below, found.1 0 ∙ ap (λ xs. get_or xs c.args.position 0) c.exits.ensures)
+    read_below b.draft.spots q.step (spot_of q) (gates_of b) b.draft.lawful.1 here _ _ _ c.exits.ensures found.0 (found.1 0)

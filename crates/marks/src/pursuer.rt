@@ -1,0 +1,2 @@
+// The pursuer's pick of a row.
+pub use crate::pick::PursuerPick;

@@ -1,0 +1,2 @@
+// The runner's pick of a row.
+pub use crate::pick::RunnerPick;
